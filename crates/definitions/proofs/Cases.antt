@@ -1,0 +1,86 @@
+-- What the lists of examples are written in: two schemas, and a reading or a call with its outcome.
+use Prim.Native.Nat.{ℕ, zero, suc, _*_}
+use mathlib.Core.List.{List, [], _∷_, _++_}
+use mathlib.Core.Option.{Option, none, some}
+use lib.ListN.{length}
+use Rattle.definitions.specs.Basics.{bytes}
+use Rattle.definitions.specs.Refusals.{Answer, given, denied}
+use Rattle.definitions.specs.Reading.{Made, whole, wordsOf, bytesOf, readAnswer}
+use Rattle.definitions.specs.Print.{Style, compact, pretty, printText}
+
+-- schema E of document 01, with the type of `id`, which is 1 (i32) there
+abbrev pub schemaE : ℕ → List ℕ
+schemaE type =
+    16 ∷ 16 ∷ 4 ∷ 0 ∷ 0 ∷ 0 ∷ 1 ∷ 16 ∷  -- header
+    0 ∷ 0 ∷ 4 ∷  -- message 0
+    0 ∷ 0 ∷ 8 ∷ 0 ∷ 0 ∷ 0 ∷ 32 ∷ 8 * type ∷ 0 ∷  -- id
+    0 ∷ 2 ∷ 16 ∷ 0 ∷ 0 ∷ 0 ∷ 64 ∷ 48 ∷ 0 ∷  -- name
+    0 ∷ 6 ∷ 24 ∷ 0 ∷ 0 ∷ 0 ∷ 123 ∷ 24 ∷ 0 ∷  -- limits
+    0 ∷ 12 ∷ 20 ∷ 0 ∷ 0 ∷ 0 ∷ 128 ∷ 72 ∷ 0 ∷  -- child
+    bytes "idnamelimitschild"
+
+-- a schema with a required field, a map to messages and an enum: `q` i32 required, `m` message 0, `mm` map of i32 to message 0,
+-- `e` enum 0 (ON 7, OFF 0, NEG -1), `b` bool, `y` bytes, `r` repeated u32; its first name's first letter is a parameter
+abbrev pub schemaNamed : ℕ → List ℕ
+schemaNamed letter =
+    16 ∷ 16 ∷ 7 ∷ 1 ∷ 0 ∷ 48 ∷ 1 ∷ 0 ∷  -- header
+    0 ∷ 0 ∷ 7 ∷  -- message 0
+    0 ∷ 0 ∷ 4 ∷ 0 ∷ 0 ∷ 0 ∷ 40 ∷ 8 ∷ 0 ∷  -- q
+    0 ∷ 1 ∷ 4 ∷ 0 ∷ 0 ∷ 0 ∷ 64 ∷ 72 ∷ 0 ∷  -- m
+    0 ∷ 2 ∷ 8 ∷ 0 ∷ 0 ∷ 0 ∷ 120 ∷ 200 ∷ 0 ∷  -- mm
+    0 ∷ 4 ∷ 4 ∷ 0 ∷ 0 ∷ 0 ∷ 128 ∷ 64 ∷ 0 ∷  -- e
+    0 ∷ 5 ∷ 4 ∷ 0 ∷ 0 ∷ 0 ∷ 160 ∷ 40 ∷ 0 ∷  -- b
+    0 ∷ 6 ∷ 4 ∷ 0 ∷ 0 ∷ 0 ∷ 192 ∷ 56 ∷ 0 ∷  -- y
+    0 ∷ 7 ∷ 4 ∷ 0 ∷ 0 ∷ 0 ∷ 240 ∷ 24 ∷ 0 ∷  -- r
+    0 ∷ 0 ∷ 3 ∷  -- enum 0
+    0 ∷ 8 ∷ 8 ∷ 0 ∷ 0 ∷ 0 ∷ 28 ∷  -- ON
+    0 ∷ 10 ∷ 12 ∷ 0 ∷ 0 ∷ 0 ∷ 0 ∷  -- OFF
+    0 ∷ 13 ∷ 15 ∷ 255 ∷ 255 ∷ 255 ∷ 252 ∷  -- NEG
+    letter ∷ bytes "mmmebyrONOFFNEG"
+
+abbrev pub schemaX : List ℕ
+schemaX = schemaNamed 113
+
+-- n copies of a text, and what comes after them
+abbrev pub times : ℕ → List ℕ → List ℕ → List ℕ
+times zero s rest = rest
+times (suc n) s rest = s ++ times n s rest
+
+-- ---- a text read under message 0 with room enough, and printed again both ways
+
+pub data Outcome : Type 0 where
+  reads : (words pool compactText prettyText : List ℕ) → Outcome
+  refuses : (why at : ℕ) → Outcome
+
+abbrev pub shown : List ℕ → List ℕ → List ℕ → Outcome
+shown schema w pool = reads w pool (printText schema compact 0 w pool) (printText schema pretty 0 w pool)
+
+abbrev pub outcomeOf : List ℕ → List ℕ → Answer Made → Outcome
+outcomeOf schema s (denied why at) = refuses why (at .offset)
+outcomeOf schema s (given made) = shown schema (wordsOf (whole schema 0 s)) (bytesOf (whole schema 0 s))
+
+pub record Case : Type 0 where
+  pub schema : List ℕ
+  pub text : List ℕ
+
+abbrev pub outcome : Case → Outcome
+outcome c = outcomeOf (c .schema) (c .text) (readAnswer (c .schema) 0 (c .text) 1000 1000)
+
+-- ---- any call's refusal, or none
+
+pub data Refusal : Type 0 where
+  by : (why at : ℕ) → Refusal
+  granted : Refusal
+
+abbrev pub refusal : {A : Type 0} → Answer A → Refusal
+refusal (denied why at) = by why (at .offset)
+refusal (given a) = granted
+
+-- a text read under message 0 with room enough
+abbrev pub reading : List ℕ → List ℕ → Refusal
+reading schema s = refusal (readAnswer schema 0 s 1000 1000)
+
+-- a text of so many bytes, before it is looked at
+abbrev pub ofLength : Option ℕ → Refusal
+ofLength (some why) = by why 0
+ofLength none = granted

@@ -1,0 +1,235 @@
+-- The examples, by computing: (a) to (j) of document 01, one statement over a list; each refusal 1 to 18 beside its nearest
+-- neighbour that is granted, one statement over a list; and prints of tables that no text makes, one statement over a list.
+use mathlib.Core.Path.{_≡_, refl}
+use Prim.Native.Nat.{ℕ}
+use mathlib.Core.List.{List, [], _∷_, _++_, map}
+use Rattle.definitions.specs.Basics.{bytes, same, each, all, find}
+use Rattle.definitions.specs.Bits.{bit, bits}
+use Rattle.definitions.specs.Image.{form, messageCount, fieldCount, enumCount, valueCount, nameCount, messagesAt, fieldsAt, enumsAt, valuesAt, namesAt, imageLength, message, enumeration, fieldAt, field, memberAt, member, identifier, nameText, fieldName, memberName, nameGood, total, running, typeGood, fieldGood, memberGood, distinct, fieldsAgree, membersAgree, headerGood, recordsGood, accepted, isMessage, findField, findMember, findNumber}
+use Rattle.definitions.specs.Scope.{want, within, hasField, nameIn, findIn}
+use Rattle.definitions.specs.Utf8.{lead, step, steps, utf8}
+use Rattle.definitions.specs.Nodes.{nodeAt, tableEnd, numberOf, widen, runOf, grow, forest, tileF, tiles, depth}
+use Rattle.definitions.specs.Validity.{inRange, runGood, valueGood, isNil, unknownGood, fieldFits, isPair, forestGood, rootGood, below, valid}
+use Rattle.definitions.specs.Live.{rankOf, valueOf, treeOf, sameVal, has, keyOf, hasKey, sharing, replaced, insert, canon, meaning}
+use Rattle.definitions.specs.Classes.{classes, class}
+use Rattle.definitions.specs.Integers as integers
+use Rattle.definitions.specs.Tokens.{gap, inside, integerScan, scanFrom, skip, scan}
+use Rattle.definitions.specs.Strings.{escapes, findEscape, octalPiece, hexPiece, escapePiece, firstPiece, decodeF, decode}
+use Rattle.definitions.specs.Calls.{barred}
+use Rattle.definitions.specs.Loop.{turns, loop}
+use Rattle.definitions.specs.Reading as read
+use Rattle.definitions.specs.Reading.{readAnswer, readBarred}
+use Rattle.definitions.specs.Print as print
+use Rattle.definitions.specs.Print.{compact, printText, printAnswer}
+use Rattle.definitions.specs.Required.{filled, filledIn, filledBelow, complete, requiredAnswer}
+use Rattle.definitions.specs.Access.{isValue, valueAnswer}
+use Rattle.definitions.proofs.Cases.{Case, Outcome, reads, refuses, outcome, schemaE, schemaX, schemaNamed, times, Refusal, by, granted, refusal, reading, ofLength}
+
+-- the value of `id` retyped, (c) and (d)
+abbrev of : ℕ → List ℕ → Case
+of type text = record { schema = schemaE type; text = text }
+
+abbrev cases : List Case
+cases =
+    of 1 []  -- (a)
+    ∷ of 1 (bytes "id: -5 limits {value: 3 key: \"a\"}")  -- (b)
+    ∷ of 2 (bytes "id: 9223372036854775807")  -- (c)
+    ∷ of 2 (bytes "id: 9223372036854775808")
+    ∷ of 2 (bytes "id: -9223372036854775808")
+    ∷ of 1 (bytes "id: 2147483648")  -- (d)
+    ∷ of 3 (bytes "id: 4294967296")
+    ∷ of 1 (bytes "child {>")  -- (e)
+    ∷ of 1 (bytes "child <>")
+    ∷ of 1 (bytes "limits <>")
+    ∷ of 1 (bytes "child: {}")  -- (f)
+    ∷ of 1 (bytes "id: 1 id: 2")  -- (g)
+    ∷ of 1 (bytes "limits {}")  -- (h)
+    ∷ of 1 (bytes "id: 012")  -- (i)
+    ∷ of 1 (bytes "id: 08")
+    ∷ of 1 (bytes "limits {key: \"a\" key: \"b\"}")  -- (j)
+    ∷ []
+
+abbrev expected : List Outcome
+expected =
+    reads (9 ∷ 0 ∷ 0 ∷ 0 ∷ 1 ∷ []) [] [] []
+    ∷ reads
+    (9 ∷ 0 ∷ 0 ∷ 0 ∷ 5 ∷ 1 ∷ 0 ∷ 4294967295 ∷ 4294967291 ∷ 2 ∷ 10 ∷ 2 ∷ 0 ∷ 0 ∷ 5 ∷ 3 ∷ 1 ∷ 0 ∷ 3 ∷ 4 ∷ 6 ∷ 0 ∷ 0 ∷ 1 ∷ 5 ∷ [])
+    (bytes "a")
+    (bytes "id: -5 limits {key: \"a\" value: 3}")
+    (bytes "id: -5\nlimits {\n  key: \"a\"\n  value: 3\n}\n")
+    ∷ reads
+    (9 ∷ 0 ∷ 0 ∷ 0 ∷ 2 ∷ 2 ∷ 0 ∷ 2147483647 ∷ 4294967295 ∷ 2 ∷ [])
+    []
+    (bytes "id: 9223372036854775807")
+    (bytes "id: 9223372036854775807\n")
+    ∷ refuses 9 4
+    ∷ reads
+    (9 ∷ 0 ∷ 0 ∷ 0 ∷ 2 ∷ 2 ∷ 0 ∷ 2147483648 ∷ 0 ∷ 2 ∷ [])
+    []
+    (bytes "id: -9223372036854775808")
+    (bytes "id: -9223372036854775808\n")
+    ∷ refuses 9 4
+    ∷ refuses 9 4
+    ∷ refuses 5 7
+    ∷ reads (9 ∷ 0 ∷ 0 ∷ 0 ∷ 2 ∷ 9 ∷ 3 ∷ 0 ∷ 0 ∷ 2 ∷ []) [] (bytes "child {}") (bytes "child {\n}\n")
+    ∷ refuses 5 7
+    ∷ refuses 5 5
+    ∷ reads
+    (9 ∷ 0 ∷ 0 ∷ 0 ∷ 3 ∷ 1 ∷ 0 ∷ 0 ∷ 1 ∷ 2 ∷ 1 ∷ 0 ∷ 0 ∷ 2 ∷ 3 ∷ [])
+    []
+    (bytes "id: 2")
+    (bytes "id: 2\n")
+    ∷ reads
+    (9 ∷ 0 ∷ 0 ∷ 0 ∷ 4 ∷ 10 ∷ 2 ∷ 0 ∷ 0 ∷ 4 ∷ 6 ∷ 0 ∷ 0 ∷ 0 ∷ 3 ∷ 3 ∷ 1 ∷ 0 ∷ 0 ∷ 4 ∷ [])
+    []
+    (bytes "limits {key: \"\" value: 0}")
+    (bytes "limits {\n  key: \"\"\n  value: 0\n}\n")
+    ∷ reads (9 ∷ 0 ∷ 0 ∷ 0 ∷ 2 ∷ 1 ∷ 0 ∷ 0 ∷ 10 ∷ 2 ∷ []) [] (bytes "id: 10") (bytes "id: 10\n")
+    ∷ refuses 4 4
+    ∷ refuses 8 17
+    ∷ []
+
+-- ---- refusals
+
+-- the child of a child, and so on, n deep
+abbrev children : ℕ → List ℕ
+children n = times n (bytes "child{") (times n (bytes "}") [])
+
+-- an entry with defaults, below n messages
+abbrev entryBelow : ℕ → List ℕ
+entryBelow n = times n (bytes "m{") (bytes "mm{}" ++ times n (bytes "}") [])
+
+-- a root with one string, `name`, of so many bytes, and so many nodes
+abbrev named : ℕ → ℕ → List ℕ
+named count end = 9 ∷ 0 ∷ 0 ∷ 0 ∷ end ∷ 6 ∷ 1 ∷ 0 ∷ count ∷ 2 ∷ []
+
+abbrev refusals : List Refusal
+refusals =
+    reading [] []
+    ∷ reading (schemaNamed 49) []
+    ∷ reading (schemaNamed 95) []
+    ∷ refusal (readAnswer (schemaE 1) 1 [] 5 0)
+    ∷ refusal (readAnswer (schemaE 1) 0 [] 5 0)
+    ∷ ofLength (readBarred (schemaE 1) 0 1048577)
+    ∷ ofLength (readBarred (schemaE 1) 0 1048576)
+    ∷ reading (schemaE 1) (bytes "name: 'ab")
+    ∷ reading (schemaE 1) (bytes "child {  # c")
+    ∷ reading (schemaE 1) (bytes "id: 1 nope 08")
+    ∷ reading (schemaE 1) (bytes "limits {keys")
+    ∷ reading schemaX (bytes "e: nope")
+    ∷ reading schemaX (bytes "e: NEG")
+    ∷ reading schemaX (bytes "mm {value {} value")
+    ∷ reading schemaX (bytes "r: 4294967295 r: 0x100000000")
+    ∷ reading schemaX (bytes "b: true b:")
+    ∷ reading schemaX (bytes "y: '\\377' y: '\\400'")
+    ∷ reading (schemaE 1) (bytes "name: '\\377'")
+    ∷ reading (schemaE 1) (children 32)
+    ∷ reading (schemaE 1) (children 33)
+    ∷ reading schemaX (entryBelow 30)
+    ∷ reading schemaX (entryBelow 31)
+    ∷ refusal (readAnswer (schemaE 1) 0 (bytes "name: 'ab'") 9 1)
+    ∷ refusal (readAnswer (schemaE 1) 0 (bytes "name: 'ab'") 10 1)
+    ∷ refusal (readAnswer (schemaE 1) 0 (bytes "name: 'ab'") 10 2)
+    ∷ refusal (printAnswer (schemaE 1) compact 0 (named 2 3) (bytes "ab") 10)
+    ∷ refusal (printAnswer (schemaE 1) compact 0 (named 3 2) (bytes "ab") 10)
+    ∷ refusal (printAnswer (schemaE 1) compact 0 (named 2 2) (bytes "ab") 9)
+    ∷ refusal (printAnswer (schemaE 1) compact 0 (named 2 2) (bytes "ab") 10)
+    ∷ refusal (requiredAnswer schemaX 0 (9 ∷ 0 ∷ 0 ∷ 0 ∷ 1 ∷ []) [])
+    ∷ refusal (requiredAnswer schemaX 0 (9 ∷ 0 ∷ 0 ∷ 0 ∷ 2 ∷ 1 ∷ 0 ∷ 0 ∷ 0 ∷ 2 ∷ []) [])
+    ∷ refusal (valueAnswer (schemaE 1) 0 (named 2 2) (bytes "ab") 0)
+    ∷ refusal (valueAnswer (schemaE 1) 0 (named 2 2) (bytes "ab") 1)
+    ∷ refusal (valueAnswer (schemaE 1) 0 (named 2 2) (bytes "ab") 2)
+    ∷ []
+
+abbrev refusalsExpected : List Refusal
+refusalsExpected =
+    by 1 0  -- an empty image
+    ∷ by 1 0  -- a name that starts with a digit
+    ∷ granted
+    ∷ by 2 0
+    ∷ granted
+    ∷ by 3 0
+    ∷ granted
+    ∷ by 4 6
+    ∷ by 5 12
+    ∷ by 6 6
+    ∷ by 6 8  -- an entry's field that is not `key` or `value`
+    ∷ by 7 3
+    ∷ granted
+    ∷ by 8 13
+    ∷ by 9 17
+    ∷ by 10 10  -- the end of the text, where a bool is wanted
+    ∷ by 11 13  -- an escape over 255
+    ∷ by 11 6  -- a string that is not UTF-8
+    ∷ granted  -- depth 32
+    ∷ by 12 197  -- depth 33
+    ∷ granted  -- a default message at depth 32
+    ∷ by 12 65  -- and at depth 33, at the entry's closer
+    ∷ by 13 2  -- 13 comes before 14
+    ∷ by 14 2
+    ∷ granted
+    ∷ by 15 0  -- an end past the words
+    ∷ by 15 0  -- a string past the pool
+    ∷ by 16 10
+    ∷ granted
+    ∷ by 17 0
+    ∷ granted
+    ∷ by 18 0  -- the root is no string
+    ∷ granted
+    ∷ by 18 0  -- no such node
+    ∷ []
+
+-- ---- prints
+
+abbrev prints : List (List ℕ)
+prints =
+    -- unknown fields 9, 8 and 9 around `id`: known fields first, then unknown ones by number, stably
+    printText (schemaE 1) compact 0
+    (9 ∷ 0 ∷ 0 ∷ 0 ∷ 5 ∷ 11 ∷ 9 ∷ 0 ∷ 4 ∷ 2 ∷ 13 ∷ 8 ∷ 0 ∷ 1 ∷ 3 ∷ 1 ∷ 0 ∷ 0 ∷ 7 ∷ 4 ∷ 12 ∷ 9 ∷ 1 ∷ 0 ∷ 5 ∷ [])
+    (10 ∷ [])
+    -- three entries with keys a, b, a: the last of equal keys is live, in its own place
+    ∷ printText (schemaE 1) compact 0
+    (9 ∷ 0 ∷ 0 ∷ 0 ∷ 10 ∷
+    10 ∷ 2 ∷ 0 ∷ 0 ∷ 4 ∷ 6 ∷ 0 ∷ 0 ∷ 1 ∷ 3 ∷ 3 ∷ 1 ∷ 0 ∷ 1 ∷ 4 ∷
+    10 ∷ 2 ∷ 0 ∷ 0 ∷ 7 ∷ 3 ∷ 1 ∷ 0 ∷ 2 ∷ 6 ∷ 6 ∷ 0 ∷ 1 ∷ 1 ∷ 7 ∷
+    10 ∷ 2 ∷ 0 ∷ 0 ∷ 10 ∷ 6 ∷ 0 ∷ 2 ∷ 1 ∷ 9 ∷ 3 ∷ 1 ∷ 0 ∷ 3 ∷ 10 ∷ [])
+    (bytes "aba")
+    -- an unnamed enum number, and a named one
+    ∷ printText schemaX compact 0 (9 ∷ 0 ∷ 0 ∷ 0 ∷ 2 ∷ 8 ∷ 3 ∷ 4294967295 ∷ 4294967294 ∷ 2 ∷ []) []
+    ∷ printText schemaX compact 0 (9 ∷ 0 ∷ 0 ∷ 0 ∷ 2 ∷ 8 ∷ 3 ∷ 4294967295 ∷ 4294967295 ∷ 2 ∷ []) []
+    ∷ []
+
+abbrev printsExpected : List (List ℕ)
+printsExpected =
+    bytes "id: 7 8: \"\\n\" 9: 4 9: 4294967296"
+    ∷ bytes "limits {key: \"b\" value: 2} limits {key: \"a\" value: 3}"
+    ∷ bytes "e: : -2"
+    ∷ bytes "e: NEG"
+    ∷ []
+
+computed : (map outcome cases ≡ expected) × (refusals ≡ refusalsExpected) × (prints ≡ printsExpected)
+unfolding same each all find bit bits
+    form messageCount fieldCount enumCount valueCount nameCount messagesAt fieldsAt enumsAt valuesAt namesAt imageLength
+    message enumeration fieldAt field memberAt member identifier nameText fieldName memberName nameGood total running typeGood
+    fieldGood memberGood distinct fieldsAgree membersAgree headerGood recordsGood accepted isMessage findField findMember findNumber
+    want within hasField nameIn findIn lead step steps utf8 nodeAt tableEnd numberOf widen runOf grow forest tileF tiles depth inRange runGood valueGood isNil unknownGood fieldFits isPair forestGood rootGood below valid
+    rankOf valueOf treeOf sameVal has keyOf hasKey sharing replaced insert canon meaning classes class
+    integers.front integers.digitValue integers.hexAhead integers.integerLength integers.runsOn integers.worth integers.integerValue
+    integers.mostUnsigned integers.mostSigned integers.signed
+    gap inside integerScan scanFrom skip scan
+    escapes findEscape octalPiece hexPiece escapePiece firstPiece decodeF decode barred turns loop
+    read.unsigned read.negated read.signedValue read.boolValue read.enumValue read.stringValue read.scalar
+    read.afterName read.opened read.field read.default read.defaultValue read.closed read.again read.noted
+    read.item read.fields read.under read.readBody read.whole read.readBarred read.readAnswer
+    print.digits print.decimal print.signedDecimal print.quoteByte print.quoteBytes print.quoted print.numberText print.label
+    print.indent print.lead print.trail print.opening print.closing print.render print.printText print.printAnswer filled filledIn filledBelow complete requiredAnswer isValue valueAnswer
+computed = (refl, refl, refl)
+
+pub examples : map outcome cases ≡ expected
+examples = computed .0
+
+pub refused : refusals ≡ refusalsExpected
+refused = computed .1
+
+pub printed : prints ≡ printsExpected
+printed = computed .2

@@ -1,0 +1,42 @@
+//! Inputs and outcomes in words.
+
+use crate::answers::{Crate, Ours, Reason};
+
+const MOST_SHOWN: usize = 100;
+
+/// A text on one line: what isn't printable ASCII as `[U+000A]`.
+pub fn text(bytes: &[u8]) -> String {
+    let letter = |c: char| match c {
+        ' '..='~' => c.to_string(),
+        _ => format!("[U+{:04X}]", u32::from(c)),
+    };
+    String::from_utf8_lossy(bytes).chars().map(letter).collect()
+}
+
+fn print(bytes: &[u8]) -> String {
+    let shown = text(bytes);
+    match shown.len() {
+        0 => "read as nothing set".to_owned(),
+        n if n > MOST_SHOWN => format!("read as `{}..`", &shown[..24]),
+        _ => format!("read as `{shown}`"),
+    }
+}
+
+pub fn ours(outcome: &Ours) -> String {
+    match outcome {
+        Ours::Accepted(values) => print(&values.compact),
+        Ours::Refused { number, at } => format!("refused {number} at {at}"),
+        Ours::Broken(answer) => format!("broken: {answer}"),
+    }
+}
+
+pub fn theirs(outcome: &Crate) -> String {
+    match outcome {
+        Crate::Accepted(values) => print(&values.compact),
+        Crate::Refused(Reason::Number(number), _) => format!("refused {number}"),
+        Crate::Refused(_, message) => {
+            let words = message.splitn(3, ':').nth(2).unwrap_or(message).trim();
+            format!("refused ({})", text(words.as_bytes()))
+        }
+    }
+}

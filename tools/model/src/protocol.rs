@@ -1,0 +1,190 @@
+//! The line protocol: a request to a line, an answer to a line for each request that answers.
+
+use crate::parse::read;
+use crate::print::{print, Style};
+use crate::refusal::Refusal;
+use crate::required::required;
+use crate::schema::{accept, Schema};
+use crate::table::access;
+use std::fmt::Write;
+
+/// The model lends no memory: its functions give back exactly what is to be written, so what a
+/// call must leave alone it leaves alone, and this is the one right word.
+const KEPT: &str = "kept";
+
+/// What requests leave for later ones. All starts empty, root 0; the empty image is a bad schema.
+#[derive(Default)]
+pub struct State {
+    schema: Option<Schema>,
+    root: u64,
+    words: Vec<u32>,
+    pool: Vec<u8>,
+}
+
+/// A line taken apart.
+enum Request {
+    Schema(Vec<u8>),
+    Root(u64),
+    Nodes(Vec<u32>),
+    Pool(Vec<u8>),
+    Text(u64, u64, Vec<u8>),
+    Print(Style, u64),
+    Required,
+    Access(u64),
+}
+
+impl State {
+    /// The answer to the line of this number, if it has one. A line that is no request is told
+    /// by its number and passed over; blank lines and `#` lines are passed over.
+    pub fn line(&mut self, number: u64, line: &[u8]) -> Option<String> {
+        if line.is_empty() || line[0] == b'#' {
+            return None;
+        }
+        match request(line) {
+            Some(request) => self.run(request),
+            None => Some(format!("? {number}")),
+        }
+    }
+
+    fn run(&mut self, request: Request) -> Option<String> {
+        match request {
+            Request::Schema(image) => self.schema = accept(&image),
+            Request::Root(root) => self.root = root,
+            Request::Nodes(words) => self.words = words,
+            Request::Pool(pool) => self.pool = pool,
+            Request::Text(words, bytes, text) => return Some(self.text(words, bytes, &text)),
+            Request::Print(style, room) => return Some(self.print(style, room)),
+            Request::Required => {
+                let done = required(&self.schema, self.root, &self.words, &self.pool);
+                return Some(match done {
+                    Ok(()) => "Q 0 0".to_string(),
+                    Err(refusal) => refused("Q", refusal),
+                });
+            }
+            Request::Access(node) => {
+                let lent = access(&self.schema, self.root, &self.words, &self.pool, node);
+                return Some(match lent {
+                    Ok(bytes) => format!("A 0 0 {}", hex(bytes)),
+                    Err(refusal) => refused("A", refusal),
+                });
+            }
+        }
+        None
+    }
+
+    /// After a read that succeeds, table and pool are what was read; else what they were.
+    fn text(&mut self, words: u64, bytes: u64, text: &[u8]) -> String {
+        match read(&self.schema, self.root, text, words, bytes) {
+            Err(refusal) => format!("{} {KEPT}", refused("T", refusal)),
+            Ok(reading) => {
+                self.words = reading.nodes.iter().flat_map(|n| n.words()).collect();
+                self.pool = reading.pool;
+                let (nodes, bytes) = (reading.nodes.len(), self.pool.len());
+                let (words, pool) = (hex_words(&self.words), hex(&self.pool));
+                format!("T 0 0 {nodes} {bytes} {words} {pool} {KEPT}")
+            }
+        }
+    }
+
+    fn print(&self, style: Style, room: u64) -> String {
+        let letter = match style {
+            Style::Compact => "C",
+            Style::Pretty => "Y",
+        };
+        match print(
+            &self.schema,
+            self.root,
+            &self.words,
+            &self.pool,
+            style,
+            room,
+        ) {
+            Err(refusal) => format!("{} {KEPT}", refused(letter, refusal)),
+            Ok(text) => format!("{letter} 0 0 {} {} {KEPT}", text.len(), hex(&text)),
+        }
+    }
+}
+
+fn refused(letter: &str, refusal: Refusal) -> String {
+    format!("{letter} {} {}", refusal.number, refusal.at)
+}
+
+/// Words on a line are separated by one space; a request has exactly its words.
+fn request(line: &[u8]) -> Option<Request> {
+    let parts: Vec<&[u8]> = line.split(|&b| b == b' ').collect();
+    Some(match parts[..] {
+        [b"S", image] => Request::Schema(from_hex(image)?),
+        [b"R", root] => Request::Root(decimal(root)?),
+        [b"N", words] => Request::Nodes(from_hex_words(words)?),
+        [b"P", pool] => Request::Pool(from_hex(pool)?),
+        [b"T", words, bytes, text] => {
+            Request::Text(decimal(words)?, decimal(bytes)?, from_hex(text)?)
+        }
+        [b"C", room] => Request::Print(Style::Compact, decimal(room)?),
+        [b"Y", room] => Request::Print(Style::Pretty, decimal(room)?),
+        [b"Q"] => Request::Required,
+        [b"A", node] => Request::Access(decimal(node)?),
+        _ => return None,
+    })
+}
+
+/// One or more decimal digits of a value within 64 bits.
+fn decimal(word: &[u8]) -> Option<u64> {
+    let digits = !word.is_empty() && word.iter().all(u8::is_ascii_digit);
+    if !digits {
+        return None;
+    }
+    std::str::from_utf8(word).ok()?.parse().ok()
+}
+
+/// Lower-case hex, two digits a byte; an empty run of bytes is `-`.
+fn from_hex(word: &[u8]) -> Option<Vec<u8>> {
+    if word == b"-" {
+        return Some(Vec::new());
+    }
+    if word.is_empty() || !word.len().is_multiple_of(2) {
+        return None;
+    }
+    word.chunks_exact(2)
+        .map(|pair| Some(hex_digit(pair[0])? << 4 | hex_digit(pair[1])?))
+        .collect()
+}
+
+fn hex_digit(digit: u8) -> Option<u8> {
+    match digit {
+        b'0'..=b'9' => Some(digit - b'0'),
+        b'a'..=b'f' => Some(digit - b'a' + 10),
+        _ => None,
+    }
+}
+
+/// Eight hex digits a word, most significant digit first.
+fn from_hex_words(word: &[u8]) -> Option<Vec<u32>> {
+    let bytes = from_hex(word)?;
+    if !bytes.len().is_multiple_of(4) {
+        return None;
+    }
+    let word = |b: &[u8]| u32::from_be_bytes([b[0], b[1], b[2], b[3]]);
+    Some(bytes.chunks_exact(4).map(word).collect())
+}
+
+fn hex(bytes: &[u8]) -> String {
+    const DIGITS: &[u8; 16] = b"0123456789abcdef";
+    if bytes.is_empty() {
+        return "-".to_string();
+    }
+    let mut text = String::with_capacity(bytes.len() * 2);
+    for &byte in bytes {
+        text.push(char::from(DIGITS[usize::from(byte >> 4)]));
+        text.push(char::from(DIGITS[usize::from(byte & 15)]));
+    }
+    text
+}
+
+fn hex_words(words: &[u32]) -> String {
+    let mut text = String::with_capacity(words.len() * 8);
+    for word in words {
+        write!(text, "{word:08x}").expect("a string takes all that is written");
+    }
+    text
+}

@@ -1,0 +1,35 @@
+//! Bytes as the protocol writes them: lower-case hex, `-` for none.
+
+pub fn to_hex(bytes: &[u8]) -> String {
+    if bytes.is_empty() {
+        return "-".to_owned();
+    }
+    let digit = |d: u8| char::from(b"0123456789abcdef"[usize::from(d)]);
+    bytes.iter().flat_map(|b| [digit(b >> 4), digit(b & 15)]).collect()
+}
+
+/// `None` for an odd count or a character that is no hex digit.
+pub fn from_hex(text: &str) -> Option<Vec<u8>> {
+    if text == "-" {
+        return Some(Vec::new());
+    }
+    let digits: Option<Vec<u8>> = text
+        .chars()
+        .map(|c| c.to_digit(16).and_then(|d| u8::try_from(d).ok()))
+        .collect();
+    let digits = digits?;
+    if digits.len() % 2 != 0 {
+        return None;
+    }
+    Some(digits.chunks(2).map(|pair| pair[0] << 4 | pair[1]).collect())
+}
+
+/// Words of 8 hex digits, most significant first.
+pub fn words_from_hex(text: &str) -> Option<Vec<u32>> {
+    let bytes = from_hex(text)?;
+    if bytes.len() % 4 != 0 {
+        return None;
+    }
+    let word = |b: &[u8]| u32::from_be_bytes([b[0], b[1], b[2], b[3]]);
+    Some(bytes.chunks(4).map(word).collect())
+}
