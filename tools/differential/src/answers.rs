@@ -29,6 +29,8 @@ pub enum Crate {
 #[derive(Clone, PartialEq, Eq, Debug)]
 pub enum Ours {
     Accepted(Values),
+    /// Accepted where the crate refuses, so that no prints were asked for.
+    AcceptedAlone,
     Refused { number: u64, at: u64 },
     /// No answer in the protocol's form, or one that says `touched`.
     Broken(String),

@@ -38,6 +38,9 @@ pub struct Reading {
     pub ours: Ours,
     /// The crate's outcome for the text as it is.
     pub theirs: Crate,
+    /// The text with the listed spellings replaced, and the crate's outcome for that.
+    pub translated: Vec<u8>,
+    pub wanted: Crate,
     pub verdict: Verdict,
     /// The requests and answers in the form of the program under test.
     pub exchange: Exchange,
@@ -71,12 +74,13 @@ impl Judge {
         }
         let asked = self.our_readings(setting, texts, &wanted)?;
         let followed = self.follow_tables(setting, &asked)?;
-        let judged = asked.into_iter().zip(theirs).enumerate().map(|(i, ((ours, exchange), theirs))| {
-            let verdict = match followed[i] {
-                true => self.verdict(setting, &ours, &theirs, &wanted[i], &translations[i]),
+        let rows = asked.into_iter().zip(theirs).zip(translations.into_iter().zip(wanted)).zip(followed);
+        let judged = rows.map(|((((ours, exchange), theirs), (made, wanted)), follows)| {
+            let verdict = match follows {
+                true => self.verdict(setting, &ours, &theirs, &wanted, &made),
                 false => Verdict::Different,
             };
-            Reading { ours, theirs, verdict, exchange }
+            Reading { ours, theirs, translated: made.text, wanted, verdict, exchange }
         });
         Ok(judged.collect())
     }
@@ -224,8 +228,7 @@ fn our_reading(answers: &[String]) -> Ours {
     match (our_refusal(t), &answers[1..]) {
         (Err(refused), _) => refused,
         (Ok(()), [c, y, q]) => our_values(c, y, q),
-        // Read where the crate refuses: no prints were asked for.
-        (Ok(()), _) => Ours::Accepted(Values { compact: Vec::new(), pretty: Vec::new(), complete: true }),
+        (Ok(()), _) => Ours::AcceptedAlone,
     }
 }
 

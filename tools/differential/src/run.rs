@@ -18,7 +18,8 @@ const BATCH: usize = 500;
 const TEXTS_OF_A_SCHEMA: usize = 200;
 const TABLES_OF_A_SCHEMA: usize = 40;
 
-/// Out of a hundred texts, how many are damaged.
+/// Out of a hundred texts, how many are tokens in no order, and how many of the others are damaged.
+const SOUP: usize = 10;
 const DAMAGED: usize = 40;
 const PLAIN: Odds = Odds { strange: 0, slips: 0 };
 const STRANGE: Odds = Odds { strange: 8, slips: 0 };
@@ -77,11 +78,16 @@ fn random_texts(judge: &mut Judge, options: &Options, random: &mut Random, figur
 
 pub fn random_setting(random: &mut Random) -> Setting {
     let schema = generate::schema::schema(random);
-    let root = random.below(schema.messages.len());
+    // A message without fields can hold nothing, so it is the root only now and then.
+    let full: Vec<usize> = (0..schema.messages.len()).filter(|m| !schema.messages[*m].is_empty()).collect();
+    let root = if full.is_empty() || random.chance(2) { random.below(schema.messages.len()) } else { *random.pick(&full) };
     Setting::new(schema, root)
 }
 
 pub fn random_text(setting: &Setting, random: &mut Random) -> Vec<u8> {
+    if random.chance(SOUP) {
+        return generate::damage::soup(&setting.schema, random);
+    }
     let odds = *random.pick(&[PLAIN, STRANGE, SLIPPING]);
     let text = generate::text::text(&setting.schema, setting.root, random, odds);
     if random.chance(DAMAGED) {
@@ -105,10 +111,12 @@ fn batch_of_texts(judge: &mut Judge, setting: &Setting, texts: &[Vec<u8>], figur
 
 fn report_text(judge: &mut Judge, setting: &Setting, text: &[u8]) -> io::Result<()> {
     for reading in judge.texts(setting, &[text.to_vec()])? {
-        let Reading { ours, theirs, exchange, .. } = reading;
-        println!("text   {}", show::text(text));
-        println!("ours   {}", show::ours(&ours));
-        println!("crate  {}", show::theirs(&theirs));
+        let Reading { ours, theirs, translated, wanted, exchange, .. } = reading;
+        println!("text            {}", show::text(text));
+        println!("ours            {}", show::ours(&ours));
+        println!("crate           {}", show::theirs(&theirs));
+        println!("translated      {}", show::text(&translated));
+        println!("crate, of this  {}", show::theirs(&wanted));
         print_exchange(setting, &exchange);
     }
     Ok(())

@@ -15,6 +15,7 @@ const TEXTS_OF_A_SCHEMA: usize = 8;
 const TABLES_OF_A_SCHEMA: usize = 3;
 /// Vectors are to be read by people too.
 const LONGEST_LINE: usize = 4_000;
+const EMPTY_TEXT: &str = " 0 -";
 
 /// True if nothing differed on the way.
 pub fn sample(judge: &mut Judge, options: &Options) -> io::Result<bool> {
@@ -54,6 +55,6 @@ fn agreed(
         return Ok(None);
     }
     let exchanges = readings.into_iter().map(|r| r.exchange).chain(printings.into_iter().map(|p| p.exchange));
-    let short = exchanges.filter(|e| e.iter().all(|(request, _)| request.len() <= LONGEST_LINE));
+    let short = exchanges.filter(|e| e.iter().all(|(request, _)| request.len() <= LONGEST_LINE && !request.ends_with(EMPTY_TEXT)));
     Ok(Some(short.flatten().collect()))
 }

@@ -25,6 +25,7 @@ fn print(bytes: &[u8]) -> String {
 pub fn ours(outcome: &Ours) -> String {
     match outcome {
         Ours::Accepted(values) => print(&values.compact),
+        Ours::AcceptedAlone => "read".to_owned(),
         Ours::Refused { number, at } => format!("refused {number} at {at}"),
         Ours::Broken(answer) => format!("broken: {answer}"),
     }
@@ -38,5 +39,22 @@ pub fn theirs(outcome: &Crate) -> String {
             let words = message.splitn(3, ':').nth(2).unwrap_or(message).trim();
             format!("refused ({})", text(words.as_bytes()))
         }
+    }
+}
+
+/// An outcome in one word, for counting.
+pub fn our_class(outcome: &Ours) -> String {
+    match outcome {
+        Ours::Accepted(_) | Ours::AcceptedAlone => "read".to_owned(),
+        Ours::Refused { number, .. } => number.to_string(),
+        Ours::Broken(_) => "broken".to_owned(),
+    }
+}
+
+pub fn their_class(outcome: &Crate) -> String {
+    match outcome {
+        Crate::Accepted(_) => "read".to_owned(),
+        Crate::Refused(Reason::Number(number), _) => number.to_string(),
+        Crate::Refused(..) => "refused".to_owned(),
     }
 }

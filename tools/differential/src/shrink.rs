@@ -8,21 +8,36 @@ use crate::setting::Setting;
 const NODE_WORDS: usize = 5;
 const KIND_ENTRY: u32 = 10;
 
+/// Bytes put to the two programs at once, and in all, while one text is made smaller.
+const BATCH_BYTES: usize = 1 << 22;
+const MOST_BYTES: usize = 1 << 28;
+
 /// Deletes bytes, first in long stretches, then one by one, while the difference stays.
 pub fn text(judge: &mut Judge, setting: &Setting, start: &[u8]) -> io::Result<Vec<u8>> {
     let mut best = start.to_vec();
     let mut stretch = best.len().div_ceil(2);
-    while stretch > 0 {
-        let candidates: Vec<Vec<u8>> = (0..best.len()).map(|at| without(&best, at, stretch)).collect();
-        let candidates: Vec<Vec<u8>> =
-            candidates.into_iter().filter(|c| c.len() < best.len() && std::str::from_utf8(c).is_ok()).collect();
-        let readings = judge.texts(setting, &candidates)?;
-        match readings.iter().position(|r| r.verdict == Verdict::Different) {
-            Some(found) => best = candidates[found].clone(),
-            None => stretch /= 2,
+    let mut tried = 0;
+    while stretch > 0 && tried < MOST_BYTES {
+        let batch = (BATCH_BYTES / best.len().max(1)).max(1) * stretch;
+        let mut at = 0;
+        while at < best.len() && tried < MOST_BYTES {
+            let places = (at..best.len().min(at + batch)).step_by(stretch);
+            let smaller = places.map(|place| without(&best, place, stretch));
+            let candidates: Vec<Vec<u8>> = smaller.filter(|c| std::str::from_utf8(c).is_ok()).collect();
+            tried += candidates.iter().map(Vec::len).sum::<usize>();
+            match first_different(judge, setting, &candidates)? {
+                Some(found) => best = candidates[found].clone(),
+                None => at += batch,
+            }
         }
+        stretch /= 2;
     }
     Ok(best)
+}
+
+fn first_different(judge: &mut Judge, setting: &Setting, texts: &[Vec<u8>]) -> io::Result<Option<usize>> {
+    let readings = judge.texts(setting, texts)?;
+    Ok(readings.iter().position(|r| r.verdict == Verdict::Different))
 }
 
 fn without(bytes: &[u8], at: usize, count: usize) -> Vec<u8> {

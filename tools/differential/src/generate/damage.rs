@@ -1,6 +1,7 @@
-//! Damaged texts: good ones with bytes taken out, put in, doubled or exchanged.
+//! Damaged texts: good ones with bytes taken out, put in, doubled or exchanged; and tokens in no order.
 
 use crate::random::Random;
+use crate::schema::Schema;
 
 /// What is put in: every kind of token, and the spellings near the edges of the rules.
 const FRAGMENTS: &[&str] = &[
@@ -38,4 +39,22 @@ fn once(bytes: &mut Vec<u8>, random: &mut Random) {
             bytes.splice(at..at, fragment);
         }
     }
+}
+
+/// Fragments and names of the schema, one after the other.
+pub fn soup(schema: &Schema, random: &mut Random) -> Vec<u8> {
+    let fields: Vec<&str> = schema.messages.iter().flatten().map(|f| f.name.as_str()).collect();
+    let mut out = String::new();
+    for _ in 0..random.between(1, 12) {
+        let piece = match random.below(10) {
+            0..=2 if !fields.is_empty() => *random.pick(&fields),
+            3..=4 => *random.pick(&[":", "{", "}", "<", ">", " "]),
+            _ => *random.pick(FRAGMENTS),
+        };
+        out.push_str(piece);
+        if random.chance(30) {
+            out.push(' ');
+        }
+    }
+    out.into_bytes()
 }
