@@ -31,7 +31,10 @@ pub enum Ours {
     Accepted(Values),
     /// Accepted where the crate refuses, so that no prints were asked for.
     AcceptedAlone,
-    Refused { number: u64, at: u64 },
+    Refused {
+        number: u64,
+        at: u64,
+    },
     /// No answer in the protocol's form, or one that says `touched`.
     Broken(String),
 }
@@ -45,7 +48,9 @@ pub fn crate_reading(t: &str, q: &str) -> Option<Crate> {
             pretty: from_hex(pretty)?,
             complete: crate_complete(q)?,
         })),
-        ["T", "no", reason, message] => Some(Crate::Refused(reason_of(reason), (*message).to_owned())),
+        ["T", "no", reason, message] => {
+            Some(Crate::Refused(reason_of(reason), (*message).to_owned()))
+        }
         _ => None,
     }
 }

@@ -10,20 +10,51 @@ use crate::show;
 
 /// Inputs of an entry, for schema X.
 const INPUTS: &[(Rule, &[&str])] = &[
-    (Rule::Octal, &["i: 012", "i: 017777777777", "i: 020000000", "v: 01777777777777777777777", "y: 'a' r: 00010"]),
+    (
+        Rule::Octal,
+        &[
+            "i: 012",
+            "i: 017777777777",
+            "i: 020000000",
+            "v: 01777777777777777777777",
+            "y: 'a' r: 00010",
+        ],
+    ),
     (Rule::NotOctal, &["i: 08", "i: 018", "b: 09", "i: 09 x"]),
-    (Rule::RunOn, &["i:1l:2", "i: 1x", "i: 2147483648l", "b: 1.5", "b: 1e5", "b: 1.", "i: 0x1l: 2", "b: 0b1"]),
+    (
+        Rule::RunOn,
+        &["i:1l:2", "i: 1x", "i: 2147483648l", "b: 1.5", "b: 1e5", "b: 1.", "i: 0x1l: 2", "b: 0b1"],
+    ),
     (Rule::InfNan, &["inf: 5", "e: nan", "nan: 1", "e: inf", "si {inf: 1}"]),
     (Rule::UnicodeSpace, &["i:\u{a0}1", "\u{2028}", "i: 1\u{3000}l: 2", "b: \u{85}x"]),
     (Rule::UnicodeLetter, &["é", "i: 1é", "e: é", "b: é", "si {é", "i: 1 ª"]),
     (Rule::Punctuation, &["b: +", "b: .5", "b: (true)", "b: ="]),
-    (Rule::AdjacentStrings, &["s: 'a' 'b'", "s: 'a'\"b\"", "y: '\\1' '2'", "s: '' # c\n ''", "b: 'a' 'b", "m 'a' '\n<>"]),
+    (
+        Rule::AdjacentStrings,
+        &[
+            "s: 'a' 'b'",
+            "s: 'a'\"b\"",
+            "y: '\\1' '2'",
+            "s: '' # c\n ''",
+            "b: 'a' 'b",
+            "m 'a' '\n<>",
+        ],
+    ),
     (Rule::BackslashNewline, &["s: 'a\\\nb'", "y: '\\\0'", "b: '\\\n'"]),
-    (Rule::UnknownEscape, &["s: '\\q'", "s: '\\8'", "s: '\\X41'", "s: '\\u00e9'", "s: '\\é'", "s: '\\ '"]),
+    (
+        Rule::UnknownEscape,
+        &["s: '\\q'", "s: '\\8'", "s: '\\X41'", "s: '\\u00e9'", "s: '\\é'", "s: '\\ '"],
+    ),
     (Rule::HexEscape, &["y: '\\x4'", "y: '\\x4g'", "b: '\\x'", "s: '\\x9' i: 1"]),
-    (Rule::OctalEscapeDigits, &["y: '\\18'", "y: '\\08'", "y: '\\128'", "s: '\\79'", "s: '\\298'", "y: '\\379'"]),
+    (
+        Rule::OctalEscapeDigits,
+        &["y: '\\18'", "y: '\\08'", "y: '\\128'", "s: '\\79'", "s: '\\298'", "y: '\\379'"],
+    ),
     (Rule::OctalEscapeSize, &["y: '\\400'", "y: '\\777'", "s: '\\501'"]),
-    (Rule::SwallowedToken, &["m 0x<>", "m '\n<>", "m '\\x<>", "m 0x10000000000000000<>", "n 0X<q: 1>"]),
+    (
+        Rule::SwallowedToken,
+        &["m 0x<>", "m '\n<>", "m '\\x<>", "m 0x10000000000000000<>", "n 0X<q: 1>"],
+    ),
     (Rule::Depth, &[]),
     (Rule::Nodes, &[]),
 ];
@@ -35,17 +66,27 @@ struct Input {
 }
 
 fn inputs(rule: Rule) -> Vec<Input> {
-    let long = |text: String, shown: &str| Input { text: text.into_bytes(), shown: shown.to_owned() };
+    let long =
+        |text: String, shown: &str| Input { text: text.into_bytes(), shown: shown.to_owned() };
     match rule {
         Rule::Depth => vec![
             long("m{".repeat(33) + &"}".repeat(33), "`m{` 33 times, then `}` 33 times"),
-            long("m{".repeat(31) + "bm{}" + &"}".repeat(31), "`m{` 31 times, `bm{}`, then `}` 31 times"),
-            long("m<".repeat(3000) + &">".repeat(3000), "`m<` 3000 times, then `>` 3000 times"),
+            long(
+                "m{".repeat(31) + "bm{}" + &"}".repeat(31),
+                "`m{` 31 times, `bm{}`, then `}` 31 times",
+            ),
+            long("m<".repeat(300) + &">".repeat(300), "`m<` 300 times, then `>` 300 times"),
         ],
         Rule::Nodes => vec![long("r:1 ".repeat(65_535), "`r:1 ` 65,535 times")],
         _ => {
-            let texts = INPUTS.iter().filter(|(r, _)| *r == rule).flat_map(|(_, texts)| texts.iter());
-            texts.map(|t| Input { text: t.as_bytes().to_vec(), shown: format!("`{}`", show::text(t.as_bytes())) }).collect()
+            let texts =
+                INPUTS.iter().filter(|(r, _)| *r == rule).flat_map(|(_, texts)| texts.iter());
+            texts
+                .map(|t| Input {
+                    text: t.as_bytes().to_vec(),
+                    shown: format!("`{}`", show::text(t.as_bytes())),
+                })
+                .collect()
         }
     }
 }
@@ -72,7 +113,12 @@ pub fn entries(judge: &mut Judge, page: Option<&str>) -> io::Result<bool> {
 fn entry(judge: &mut Judge, rule: Rule, input: &Input, page: Option<&str>) -> io::Result<bool> {
     let with = judged(judge, Vec::new(), &input.text)?;
     let without = judged(judge, vec![rule], &input.text)?;
-    let row = format!("| {} | {} | {} |", input.shown, show::ours(&with.ours), show::theirs(&with.theirs));
+    let row = format!(
+        "| {} | {} | {} |",
+        input.shown,
+        show::ours(&with.ours),
+        show::theirs(&with.theirs)
+    );
     println!("{row}");
     let mut good = true;
     if with.verdict != Verdict::Listed(rule) {

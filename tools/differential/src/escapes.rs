@@ -4,7 +4,8 @@ use crate::rules::{Rule, Rules};
 
 /// A string's inside for the crate.
 pub enum Respelled {
-    /// The same bytes by document 01, in a spelling that the crate decodes alike, and the rules used.
+    /// The same bytes by document 01, in a spelling that the crate decodes alike, and the rules
+    /// used.
     Inside(Vec<u8>, Vec<Rule>),
     /// A bad escape by document 01 that the crate takes or judges elsewhere.
     Refused(Rule),
@@ -56,7 +57,8 @@ fn escape_at(rest: &[u8]) -> Escape {
     }
 }
 
-/// One to three octal digits. The crate takes 8 and 9 as second and third digit, and cuts what is over 255.
+/// One to three octal digits. The crate takes 8 and 9 as second and third digit, and cuts what is
+/// over 255.
 fn octal(rest: &[u8]) -> Escape {
     let digits = rest[1..].iter().take(3).take_while(|b| (b'0'..=b'7').contains(b)).count();
     let value = rest[1..1 + digits].iter().fold(0u16, |value, b| value * 8 + u16::from(b - b'0'));

@@ -26,7 +26,11 @@ impl Figures {
             Ours::Broken(_) => {}
         }
         if let Verdict::Listed(rule) = reading.verdict {
-            let pair = format!("{}/{}", show::our_class(&reading.ours), show::their_class(&reading.theirs));
+            let pair = format!(
+                "{}/{}",
+                show::our_class(&reading.ours),
+                show::their_class(&reading.theirs)
+            );
             *self.listed.entry(rule.name()).or_default().entry(pair).or_default() += 1;
         }
     }
@@ -41,13 +45,19 @@ impl Figures {
     pub fn print(&self, seed: u64) {
         let listed: usize = self.listed.values().flat_map(BTreeMap::values).sum();
         println!("seed {seed}");
-        println!("texts {}: {} accepted, {} refused", self.texts, self.accepted, self.refused.values().sum::<usize>());
+        println!(
+            "texts {}: {} accepted, {} refused",
+            self.texts,
+            self.accepted,
+            self.refused.values().sum::<usize>()
+        );
         for (number, count) in &self.refused {
             println!("  refused {number}: {count}");
         }
         println!("texts with a listed difference, as ours/crate: {listed}");
         for (rule, pairs) in &self.listed {
-            let pairs: Vec<String> = pairs.iter().map(|(pair, count)| format!("{pair} {count}")).collect();
+            let pairs: Vec<String> =
+                pairs.iter().map(|(pair, count)| format!("{pair} {count}")).collect();
             println!("  {rule}: {}", pairs.join(", "));
         }
         println!("tables {}: {} with a required field missing", self.tables, self.incomplete);

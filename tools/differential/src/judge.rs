@@ -1,4 +1,5 @@
-//! The same texts and tables put to the crate and to the program under test, in batches, and judged.
+//! The same texts and tables put to the crate and to the program under test, in batches, and
+//! judged.
 
 use std::io;
 
@@ -6,22 +7,12 @@ use crate::answers::{crate_reading, crate_table, our_refusal, our_values, Crate,
 use crate::compare::{agree, is_nodes_difference, same_values};
 use crate::hex::{to_hex, words_to_hex};
 use crate::program::Program;
+use crate::requests::{
+    answering, paired, read_table, table_exchange, table_requests, text_requests, Exchange, Table,
+};
 use crate::rules::{Rule, Rules};
 use crate::setting::{untranslated, Setting};
 use crate::translate::{translate, Translation};
-
-const NODE_WORDS: usize = 5;
-const MOST_NODES: usize = 65_535;
-
-/// Requests, each with its answer if it has one.
-pub type Exchange = Vec<(String, Option<String>)>;
-
-/// A node table with its pool.
-#[derive(Clone, Debug)]
-pub struct Table {
-    pub words: Vec<u32>,
-    pub pool: Vec<u8>,
-}
 
 #[derive(Clone, Copy, PartialEq, Eq, Debug)]
 pub enum Verdict {
@@ -62,42 +53,68 @@ pub struct Judge {
 
 impl Judge {
     pub fn texts(&mut self, setting: &Setting, texts: &[Vec<u8>]) -> io::Result<Vec<Reading>> {
-        let translations: Vec<Translation> =
-            texts.iter().map(|t| translate(&setting.schema, setting.root, t, &self.rules)).collect();
-        let wanted = self.crate_readings(&setting.translated_lines(&self.rules), translations.iter().map(|t| &t.text[..]))?;
-        let wanted: Vec<Crate> = wanted.into_iter().map(|c| name_back(c, &self.rules)).collect();
-        let changed: Vec<usize> = (0..texts.len()).filter(|i| translations[*i].text != texts[*i]).collect();
-        let plain = self.crate_readings(&setting.lines(), changed.iter().map(|i| &texts[*i][..]))?;
-        let mut theirs = wanted.clone();
-        for (i, outcome) in changed.into_iter().zip(plain) {
-            theirs[i] = outcome;
-        }
+        let made: Vec<Translation> = texts
+            .iter()
+            .map(|t| translate(&setting.schema, setting.root, t, &self.rules))
+            .collect();
+        let (wanted, theirs) = self.crate_outcomes(setting, texts, &made)?;
         let asked = self.our_readings(setting, texts, &wanted)?;
         let followed = self.follow_tables(setting, &asked)?;
-        let rows = asked.into_iter().zip(theirs).zip(translations.into_iter().zip(wanted)).zip(followed);
-        let judged = rows.map(|((((ours, exchange), theirs), (made, wanted)), follows)| {
+        let outcomes = asked.into_iter().zip(theirs.into_iter().zip(wanted));
+        let rows = outcomes.zip(made.into_iter().zip(followed));
+        let judged = rows.map(|(((ours, exchange), (theirs, wanted)), (made, follows))| {
             let verdict = match follows {
                 true => self.verdict(setting, &ours, &theirs, &wanted, &made),
                 false => Verdict::Different,
             };
-            Reading { ours, theirs, translated: made.text, wanted, verdict, exchange }
+            let translated = made.text;
+            Reading { ours, theirs, translated, wanted, verdict, exchange }
         });
         Ok(judged.collect())
     }
 
-    /// Whether the crate, given the nodes and the pool that were read, prints what the program under test prints of them. A
-    /// printer that goes with a wrong reader would hide it.
-    fn follow_tables(&mut self, setting: &Setting, asked: &[(Ours, Exchange)]) -> io::Result<Vec<bool>> {
-        let given: Vec<Option<(&str, &str)>> = asked.iter().map(|(_, exchange)| read_table(exchange)).collect();
+    /// The crate's outcomes for the translated texts, and for the texts as they are.
+    fn crate_outcomes(
+        &mut self,
+        setting: &Setting,
+        texts: &[Vec<u8>],
+        made: &[Translation],
+    ) -> io::Result<(Vec<Crate>, Vec<Crate>)> {
+        let lines = setting.translated_lines(&self.rules);
+        let wanted = self.crate_readings(&lines, made.iter().map(|t| &t.text[..]))?;
+        let rules = &self.rules;
+        let wanted: Vec<Crate> = wanted.into_iter().map(|c| name_back(c, rules)).collect();
+        let changed: Vec<usize> = (0..texts.len()).filter(|i| made[*i].text != texts[*i]).collect();
+        let plain =
+            self.crate_readings(&setting.lines(), changed.iter().map(|i| &texts[*i][..]))?;
+        let mut theirs = wanted.clone();
+        for (i, outcome) in changed.into_iter().zip(plain) {
+            theirs[i] = outcome;
+        }
+        Ok((wanted, theirs))
+    }
+
+    /// Whether the crate, given the nodes and the pool that were read, prints what the program
+    /// under test prints of them. A printer that goes with a wrong reader would hide it.
+    fn follow_tables(
+        &mut self,
+        setting: &Setting,
+        asked: &[(Ours, Exchange)],
+    ) -> io::Result<Vec<bool>> {
+        let given: Vec<Option<(&str, &str)>> =
+            asked.iter().map(|(_, exchange)| read_table(exchange)).collect();
         let mut lines = setting.lines();
         for (words, pool) in given.iter().flatten() {
             lines.push_str(&format!("N {words}\nP {pool}\nC 0\nY 0\nQ\n"));
         }
         let answers = self.oracle.ask(&lines, 3 * given.iter().flatten().count())?;
         let mut answers = answers.chunks(3).map(|a| crate_table(&a[0], &a[1], &a[2]));
-        let views: Vec<Option<Values>> = given.iter().map(|table| table.and_then(|_| answers.next().flatten())).collect();
+        let views: Vec<Option<Values>> =
+            given.iter().map(|table| table.and_then(|_| answers.next().flatten())).collect();
         let follows = |i: usize| match (&asked[i].0, given[i], &views[i]) {
-            (Ours::Accepted(ours), Some(_), Some(view)) => same_values(&setting.schema, setting.root, ours, view),
+            (Ours::Accepted(ours), Some(_), Some(view)) => {
+                same_values(&setting.schema, setting.root, ours, view)
+            }
             (Ours::Accepted(_), Some(_), None) => false,
             _ => true,
         };
@@ -105,7 +122,14 @@ impl Judge {
     }
 
     /// The program under test must answer the text as the crate answers its translation.
-    fn verdict(&self, setting: &Setting, ours: &Ours, theirs: &Crate, wanted: &Crate, made: &Translation) -> Verdict {
+    fn verdict(
+        &self,
+        setting: &Setting,
+        ours: &Ours,
+        theirs: &Crate,
+        wanted: &Crate,
+        made: &Translation,
+    ) -> Verdict {
         let agrees = |other: &Crate| agree(&setting.schema, setting.root, ours, other);
         if is_nodes_difference(ours, wanted, &self.rules) {
             return Verdict::Listed(Rule::Nodes);
@@ -117,7 +141,11 @@ impl Judge {
         }
     }
 
-    fn crate_readings<'a>(&mut self, setting: &str, texts: impl Iterator<Item = &'a [u8]>) -> io::Result<Vec<Crate>> {
+    fn crate_readings<'a>(
+        &mut self,
+        setting: &str,
+        texts: impl Iterator<Item = &'a [u8]>,
+    ) -> io::Result<Vec<Crate>> {
         let mut lines = setting.to_owned();
         let mut count = 0;
         for text in texts {
@@ -126,7 +154,8 @@ impl Judge {
         }
         let answers = self.oracle.ask(&lines, 2 * count)?;
         let outcome = |pair: &[String]| {
-            crate_reading(&pair[0], &pair[1]).ok_or_else(|| io::Error::other(format!("oracle: {}", pair[0])))
+            crate_reading(&pair[0], &pair[1])
+                .ok_or_else(|| io::Error::other(format!("oracle: {}", pair[0])))
         };
         answers.chunks(2).map(outcome).collect()
     }
@@ -138,7 +167,8 @@ impl Judge {
         texts: &[Vec<u8>],
         wanted: &[Crate],
     ) -> io::Result<Vec<(Ours, Exchange)>> {
-        let requests: Vec<Vec<String>> = texts.iter().zip(wanted).map(|(t, w)| text_requests(t, w)).collect();
+        let requests: Vec<Vec<String>> =
+            texts.iter().zip(wanted).map(|(t, w)| text_requests(t, w)).collect();
         let answers = self.peer_answers(&setting.lines(), &requests)?;
         let read = |(requests, answers): (Vec<String>, Vec<String>)| {
             let ours = our_reading(&answers);
@@ -149,34 +179,51 @@ impl Judge {
 
     pub fn tables(&mut self, setting: &Setting, tables: &[Table]) -> io::Result<Vec<Printing>> {
         let theirs = self.crate_tables(setting, tables)?;
-        let requests: Vec<Vec<String>> = tables.iter().zip(&theirs).map(|(t, v)| table_requests(t, v.as_ref())).collect();
+        let requests: Vec<Vec<String>> =
+            tables.iter().zip(&theirs).map(|(t, v)| table_requests(t, v.as_ref())).collect();
         let answers = self.peer_answers(&setting.lines(), &requests)?;
-        let judged = requests.into_iter().zip(answers).zip(theirs).map(|((requests, answers), theirs)| {
-            let ours = match answers.as_slice() {
-                [c, y, q] => our_values(c, y, q),
-                _ => Ours::Broken(answers.join(" | ")),
-            };
-            let same = match (&ours, &theirs) {
-                (Ours::Accepted(a), Some(b)) => same_values(&setting.schema, setting.root, a, b),
-                _ => false,
-            };
-            Printing { ours, theirs, same, exchange: table_exchange(requests, answers) }
-        });
+        let judged =
+            requests.into_iter().zip(answers).zip(theirs).map(|((requests, answers), theirs)| {
+                let ours = match answers.as_slice() {
+                    [c, y, q] => our_values(c, y, q),
+                    _ => Ours::Broken(answers.join(" | ")),
+                };
+                let same = match (&ours, &theirs) {
+                    (Ours::Accepted(a), Some(b)) => {
+                        same_values(&setting.schema, setting.root, a, b)
+                    }
+                    _ => false,
+                };
+                Printing { ours, theirs, same, exchange: table_exchange(requests, answers) }
+            });
         Ok(judged.collect())
     }
 
-    fn crate_tables(&mut self, setting: &Setting, tables: &[Table]) -> io::Result<Vec<Option<Values>>> {
+    fn crate_tables(
+        &mut self,
+        setting: &Setting,
+        tables: &[Table],
+    ) -> io::Result<Vec<Option<Values>>> {
         let mut lines = setting.lines();
         for table in tables {
-            lines.push_str(&format!("N {}\nP {}\nC 0\nY 0\nQ\n", words_to_hex(&table.words), to_hex(&table.pool)));
+            lines.push_str(&format!(
+                "N {}\nP {}\nC 0\nY 0\nQ\n",
+                words_to_hex(&table.words),
+                to_hex(&table.pool)
+            ));
         }
         let answers = self.oracle.ask(&lines, 3 * tables.len())?;
         Ok(answers.chunks(3).map(|a| crate_table(&a[0], &a[1], &a[2])).collect())
     }
 
-    /// The answers to each list of requests. A program that ends in the middle is started again and asked one
-    /// list at a time, so that the list that ends it has no answers and the others have theirs.
-    fn peer_answers(&mut self, setting: &str, requests: &[Vec<String>]) -> io::Result<Vec<Vec<String>>> {
+    /// The answers to each list of requests. A program that ends in the middle is started again and
+    /// asked one list at a time, so that the list that ends it has no answers and the others have
+    /// theirs.
+    fn peer_answers(
+        &mut self,
+        setting: &str,
+        requests: &[Vec<String>],
+    ) -> io::Result<Vec<Vec<String>>> {
         let counts: Vec<usize> = requests.iter().map(|r| answering(r)).collect();
         let lines: String = requests.iter().flatten().map(|r| format!("{r}\n")).collect();
         if let Ok(answers) = self.peer.ask(&format!("{setting}{lines}"), counts.iter().sum()) {
@@ -196,61 +243,15 @@ impl Judge {
     }
 }
 
-fn answering(requests: &[String]) -> usize {
-    requests.iter().filter(|r| !r.starts_with("N ") && !r.starts_with("P ")).count()
-}
-
-/// A text brings at most a node for each byte and the root, and at most a pool byte for each byte.
-fn text_requests(text: &[u8], wanted: &Crate) -> Vec<String> {
-    let nodes = (text.len() + 1).min(MOST_NODES);
-    let mut requests = vec![format!("T {} {} {}", nodes * NODE_WORDS, text.len(), to_hex(text))];
-    if let Crate::Accepted(values) = wanted {
-        requests.extend(value_requests(values));
-    }
-    requests
-}
-
-fn value_requests(values: &Values) -> [String; 3] {
-    [format!("C {}", values.compact.len()), format!("Y {}", values.pretty.len()), "Q".to_owned()]
-}
-
-fn table_requests(table: &Table, values: Option<&Values>) -> Vec<String> {
-    let mut requests = vec![format!("N {}", words_to_hex(&table.words)), format!("P {}", to_hex(&table.pool))];
-    match values {
-        Some(values) => requests.extend(value_requests(values)),
-        None => requests.extend(["C 0", "Y 0", "Q"].map(str::to_owned)),
-    }
-    requests
-}
-
 fn our_reading(answers: &[String]) -> Ours {
-    let Some(t) = answers.first() else { return Ours::Broken("no answer".to_owned()) };
+    let Some(t) = answers.first() else {
+        return Ours::Broken("no answer".to_owned());
+    };
     match (our_refusal(t), &answers[1..]) {
         (Err(refused), _) => refused,
         (Ok(()), [c, y, q]) => our_values(c, y, q),
         (Ok(()), _) => Ours::AcceptedAlone,
     }
-}
-
-/// The words and the pool of an accepted text whose prints were asked for: `T 0 0 NODES POOLBYTES WORDSHEX POOLHEX KEPT`.
-fn read_table(exchange: &Exchange) -> Option<(&str, &str)> {
-    let answer = exchange.first().filter(|_| exchange.len() > 1)?.1.as_ref()?;
-    let words: Vec<&str> = answer.split(' ').collect();
-    match words.as_slice() {
-        ["T", "0", "0", _, _, nodes, pool, _] => Some((*nodes, *pool)),
-        _ => None,
-    }
-}
-
-fn paired(requests: Vec<String>, answers: Vec<String>) -> Exchange {
-    let mut answers = answers.into_iter();
-    requests.into_iter().map(|r| (r, answers.next())).collect()
-}
-
-fn table_exchange(mut requests: Vec<String>, answers: Vec<String>) -> Exchange {
-    let asked = requests.split_off(2);
-    let given = requests.into_iter().map(|r| (r, None));
-    given.chain(paired(asked, answers)).collect()
 }
 
 /// The outcome for a translated text with the names put back.

@@ -1,4 +1,5 @@
-//! The real crate and a program that speaks the same line protocol, asked the same things and compared.
+//! The real crate and a program that speaks the same line protocol, asked the same things and
+//! compared.
 
 mod answers;
 mod compare;
@@ -12,6 +13,7 @@ mod options;
 mod printed;
 mod program;
 mod random;
+mod requests;
 mod rules;
 mod run;
 mod sample;

@@ -17,9 +17,10 @@ pub struct Options {
     pub rules: Rules,
 }
 
-pub const USAGE: &str = "usage: differential run     --peer PATH --oracle PATH [--texts N] [--tables M] [--seed S] [--short L] [--without NAME]..
-       differential entries --peer PATH --oracle PATH [--page docs/DIFFERENCES.md]
-       differential sample  --peer PATH --oracle PATH [--lines N] [--seed S]";
+pub const USAGE: &str = "usage: differential MODE --peer PATH --oracle PATH
+run      [--texts N] [--tables M] [--seed S] [--short L] [--without NAME]..
+entries  [--page docs/DIFFERENCES.md]
+sample   [--lines N] [--seed S]";
 
 pub fn options(arguments: &[String]) -> Result<Options, String> {
     let (mode, rest) = arguments.split_first().ok_or(USAGE)?;
@@ -37,7 +38,9 @@ pub fn options(arguments: &[String]) -> Result<Options, String> {
     };
     let mut without = Vec::new();
     for pair in rest.chunks(2) {
-        let [flag, value] = pair else { return Err(format!("{} needs a value", pair[0])) };
+        let [flag, value] = pair else {
+            return Err(format!("{} needs a value", pair[0]));
+        };
         options.set(flag, value, &mut without)?;
     }
     if options.peer.is_empty() || options.oracle.is_empty() {
@@ -58,7 +61,9 @@ impl Options {
             "--seed" => self.seed = number(value)?,
             "--short" => self.short = number(value)?,
             "--lines" => self.lines = number(value)?,
-            "--without" => without.push(Rule::of_name(value).ok_or(format!("no rule named {value}"))?),
+            "--without" => {
+                without.push(Rule::of_name(value).ok_or(format!("no rule named {value}"))?)
+            }
             _ => return Err(format!("{flag} is not known\n{USAGE}")),
         }
         Ok(())

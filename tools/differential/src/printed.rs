@@ -1,7 +1,7 @@
 //! A printed text with the entries of each map sorted, so that maps can be compared as sets.
 //!
-//! The print's form is followed to the byte (one space between fields, two spaces a level, newlines): a text in any other form
-//! gives `None`.
+//! The print's form is followed to the byte (one space between fields, two spaces a level,
+//! newlines): a text in any other form gives `None`.
 
 use crate::schema::{Label, Schema, MESSAGE};
 
@@ -49,7 +49,8 @@ impl Walk<'_> {
         if level == 0 {
             return self.at == self.text.len();
         }
-        let closer = if self.pretty { format!("{}}}", "  ".repeat(level - 1)) } else { "}".to_owned() };
+        let closer =
+            if self.pretty { format!("{}}}", "  ".repeat(level - 1)) } else { "}".to_owned() };
         self.looking_at(closer.as_bytes())
     }
 
@@ -83,7 +84,10 @@ impl Walk<'_> {
         }
         let (inner, is_map) = self.inner_scope(scope, &name)?;
         let body = self.braced(inner, level)?;
-        Some(Item { bytes: [name.as_bytes(), b" {", &body, b"}"].concat(), map: is_map.then_some(name) })
+        Some(Item {
+            bytes: [name.as_bytes(), b" {", &body, b"}"].concat(),
+            map: is_map.then_some(name),
+        })
     }
 
     fn inner_scope(&self, scope: Scope, name: &str) -> Option<(Scope, bool)> {
@@ -139,7 +143,8 @@ fn join(mut items: Vec<Item>) -> Vec<u8> {
     let mut start = 0;
     while start < items.len() {
         let mut end = start + 1;
-        while end < items.len() && items[start].map.is_some() && items[end].map == items[start].map {
+        while end < items.len() && items[start].map.is_some() && items[end].map == items[start].map
+        {
             end += 1;
         }
         items[start..end].sort_by(|a, b| a.bytes.cmp(&b.bytes));
@@ -147,4 +152,36 @@ fn join(mut items: Vec<Item>) -> Vec<u8> {
     }
     let lines: Vec<Vec<u8>> = items.into_iter().map(|item| item.bytes).collect();
     lines.join(&b'\n')
+}
+
+#[cfg(test)]
+mod tests {
+    use super::*;
+    use crate::schema::schema_x;
+
+    fn same(a: &str, b: &str, pretty: bool) -> bool {
+        let schema = schema_x();
+        let [a, b] = [a, b].map(|text| sorted(&schema, 0, text.as_bytes(), pretty));
+        a.is_some() && a == b
+    }
+
+    #[test]
+    fn entries_may_change_places() {
+        let (a, b) = ("ie {key: 1 value: : 5}", "ie {key: 2 value: ON}");
+        assert!(same(&format!("i: 1 {a} {b}"), &format!("i: 1 {b} {a}"), false));
+        let (a, b) = (
+            "  bm {\n    key: true\n    value {\n    }\n  }\n",
+            "  bm {\n    key: false\n    value {\n    }\n  }\n",
+        );
+        assert!(same(&format!("m {{\n{a}{b}}}\n"), &format!("m {{\n{b}{a}}}\n"), true));
+    }
+
+    #[test]
+    fn nothing_else_may() {
+        assert!(!same("r: 1 r: 2", "r: 2 r: 1", false));
+        assert!(!same("i: 1 l: 2", "l: 2 i: 1", false));
+        assert!(!same("n {q: 1} n {q: 2}", "n {q: 2} n {q: 1}", false));
+        assert!(!same("i:  1", "i:  1", false));
+        assert!(!same("s: \"} ie {\"", "s: \"} ie { \"", false));
+    }
 }

@@ -16,18 +16,25 @@ impl Program {
         let mut child = Command::new(path).stdin(Stdio::piped()).stdout(Stdio::piped()).spawn()?;
         let input = child.stdin.take();
         let output = child.stdout.take().ok_or_else(|| io::Error::other("no output"))?;
-        Ok(Program { path: path.to_owned(), child, input, output: BufReader::with_capacity(1 << 16, output) })
+        Ok(Program {
+            path: path.to_owned(),
+            child,
+            input,
+            output: BufReader::with_capacity(1 << 16, output),
+        })
     }
 
-    /// Sends the lines and takes as many answers. Lines are sent by a thread of their own, so that neither side waits
-    /// for the other with a full pipe.
+    /// Sends the lines and takes as many answers. Lines are sent by a thread of their own, so that
+    /// neither side waits for the other with a full pipe.
     pub fn ask(&mut self, lines: &str, answers: usize) -> io::Result<Vec<String>> {
         let input = self.input.as_mut().ok_or_else(|| io::Error::other("no input"))?;
         let output = &mut self.output;
         thread::scope(|scope| {
-            let sender = scope.spawn(move || input.write_all(lines.as_bytes()).and_then(|()| input.flush()));
+            let sender =
+                scope.spawn(move || input.write_all(lines.as_bytes()).and_then(|()| input.flush()));
             let taken: io::Result<Vec<String>> = (0..answers).map(|_| answer(output)).collect();
-            let sent = sender.join().unwrap_or_else(|_| Err(io::Error::other("the sender stopped")));
+            let sent =
+                sender.join().unwrap_or_else(|_| Err(io::Error::other("the sender stopped")));
             sent.and(taken)
         })
     }

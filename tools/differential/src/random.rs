@@ -1,4 +1,5 @@
-//! A small generator of random numbers (splitmix64), so that a seed gives the same run on any machine.
+//! A small generator of random numbers (splitmix64), so that a seed gives the same run on any
+//! machine.
 
 pub struct Random {
     state: u64,

@@ -1,4 +1,5 @@
-//! A run: short texts, random texts and damaged ones, and tables, until a difference that no entry covers.
+//! A run: short texts, random texts and damaged ones, and tables, until a difference that no entry
+//! covers.
 
 use std::io;
 
@@ -7,9 +8,10 @@ use crate::figures::Figures;
 use crate::generate;
 use crate::generate::short::PLACES;
 use crate::generate::text::Odds;
-use crate::judge::{Exchange, Judge, Reading, Table, Verdict};
+use crate::judge::{Judge, Reading, Verdict};
 use crate::options::Options;
 use crate::random::Random;
+use crate::requests::{Exchange, Table};
 use crate::schema::schema_x;
 use crate::setting::Setting;
 use crate::{show, shrink};
@@ -34,7 +36,14 @@ pub fn run(judge: &mut Judge, options: &Options) -> io::Result<bool> {
         && random_texts(judge, options, &mut random, &mut figures)?
         && random_tables(judge, options, &mut random, &mut figures)?;
     figures.print(options.seed);
-    println!("{}", if good { "no difference outside the listed entries" } else { "A DIFFERENCE THAT NO ENTRY COVERS" });
+    println!(
+        "{}",
+        if good {
+            "no difference outside the listed entries"
+        } else {
+            "A DIFFERENCE THAT NO ENTRY COVERS"
+        }
+    );
     Ok(good)
 }
 
@@ -62,7 +71,12 @@ fn long_texts(judge: &mut Judge, figures: &mut Figures) -> io::Result<bool> {
     batch_of_tables(judge, &setting, &[table], figures)
 }
 
-fn random_texts(judge: &mut Judge, options: &Options, random: &mut Random, figures: &mut Figures) -> io::Result<bool> {
+fn random_texts(
+    judge: &mut Judge,
+    options: &Options,
+    random: &mut Random,
+    figures: &mut Figures,
+) -> io::Result<bool> {
     let mut left = options.texts;
     while left > 0 {
         let setting = random_setting(random);
@@ -79,8 +93,13 @@ fn random_texts(judge: &mut Judge, options: &Options, random: &mut Random, figur
 pub fn random_setting(random: &mut Random) -> Setting {
     let schema = generate::schema::schema(random);
     // A message without fields can hold nothing, so it is the root only now and then.
-    let full: Vec<usize> = (0..schema.messages.len()).filter(|m| !schema.messages[*m].is_empty()).collect();
-    let root = if full.is_empty() || random.chance(2) { random.below(schema.messages.len()) } else { *random.pick(&full) };
+    let full: Vec<usize> =
+        (0..schema.messages.len()).filter(|m| !schema.messages[*m].is_empty()).collect();
+    let root = if full.is_empty() || random.chance(2) {
+        random.below(schema.messages.len())
+    } else {
+        *random.pick(&full)
+    };
     Setting::new(schema, root)
 }
 
@@ -96,7 +115,12 @@ pub fn random_text(setting: &Setting, random: &mut Random) -> Vec<u8> {
     String::from_utf8_lossy(&text).into_owned().into_bytes()
 }
 
-fn batch_of_texts(judge: &mut Judge, setting: &Setting, texts: &[Vec<u8>], figures: &mut Figures) -> io::Result<bool> {
+fn batch_of_texts(
+    judge: &mut Judge,
+    setting: &Setting,
+    texts: &[Vec<u8>],
+    figures: &mut Figures,
+) -> io::Result<bool> {
     let readings = judge.texts(setting, texts)?;
     for (text, reading) in texts.iter().zip(&readings) {
         figures.count_text(reading);
@@ -132,14 +156,20 @@ fn print_exchange(setting: &Setting, exchange: &Exchange) {
     }
 }
 
-fn random_tables(judge: &mut Judge, options: &Options, random: &mut Random, figures: &mut Figures) -> io::Result<bool> {
+fn random_tables(
+    judge: &mut Judge,
+    options: &Options,
+    random: &mut Random,
+    figures: &mut Figures,
+) -> io::Result<bool> {
     let mut left = options.tables;
     while left > 0 {
         let setting = random_setting(random);
         let count = left.min(TABLES_OF_A_SCHEMA);
         left -= count;
-        let tables: Vec<Table> =
-            (0..count).map(|_| generate::table::table(&setting.schema, setting.root, random)).collect();
+        let tables: Vec<Table> = (0..count)
+            .map(|_| generate::table::table(&setting.schema, setting.root, random))
+            .collect();
         if !batch_of_tables(judge, &setting, &tables, figures)? {
             return Ok(false);
         }
@@ -147,7 +177,12 @@ fn random_tables(judge: &mut Judge, options: &Options, random: &mut Random, figu
     Ok(true)
 }
 
-fn batch_of_tables(judge: &mut Judge, setting: &Setting, tables: &[Table], figures: &mut Figures) -> io::Result<bool> {
+fn batch_of_tables(
+    judge: &mut Judge,
+    setting: &Setting,
+    tables: &[Table],
+    figures: &mut Figures,
+) -> io::Result<bool> {
     let printings = judge.tables(setting, tables)?;
     for (table, printing) in tables.iter().zip(&printings) {
         figures.count_table(printing);
@@ -162,14 +197,24 @@ fn batch_of_tables(judge: &mut Judge, setting: &Setting, tables: &[Table], figur
 
 fn report_table(judge: &mut Judge, setting: &Setting, table: &Table) -> io::Result<()> {
     for printing in judge.tables(setting, &[table.clone()])? {
-        let complete = |values: bool| if values { "complete" } else { "a required field missing" };
+        let complete = |values: bool| {
+            if values {
+                "complete"
+            } else {
+                "a required field missing"
+            }
+        };
         if let Ours::Accepted(values) = &printing.ours {
             println!("ours   {}, {}", show::ours(&printing.ours), complete(values.complete));
         } else {
             println!("ours   {}", show::ours(&printing.ours));
         }
         match printing.theirs {
-            Some(v) => println!("crate  {}, {}", show::theirs(&Crate::Accepted(v.clone())), complete(v.complete)),
+            Some(v) => println!(
+                "crate  {}, {}",
+                show::theirs(&Crate::Accepted(v.clone())),
+                complete(v.complete)
+            ),
             None => println!("crate  can't be given this table"),
         }
         print_exchange(setting, &printing.exchange);

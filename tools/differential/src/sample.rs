@@ -1,13 +1,15 @@
 //! A sample of requests with the agreed answers, as stored vectors.
 //!
-//! Each answer stands after its request on a line that begins with `#= `, so that the whole is itself a valid input.
+//! Each answer stands after its request on a line that begins with `#= `, so that the whole is
+//! itself a valid input.
 
 use std::io;
 
 use crate::generate;
-use crate::judge::{Exchange, Judge, Table, Verdict};
+use crate::judge::{Judge, Verdict};
 use crate::options::Options;
 use crate::random::Random;
+use crate::requests::{Exchange, Table};
 use crate::run::{random_setting, random_text};
 use crate::setting::Setting;
 
@@ -27,7 +29,9 @@ pub fn sample(judge: &mut Judge, options: &Options) -> io::Result<bool> {
         if setting.lines().len() > LONGEST_LINE {
             continue;
         }
-        let Some(exchange) = agreed(judge, &setting, &mut random)? else { return Ok(false) };
+        let Some(exchange) = agreed(judge, &setting, &mut random)? else {
+            return Ok(false);
+        };
         print!("{}", setting.lines());
         for (request, answer) in exchange.iter().take(left) {
             println!("{request}");
@@ -40,21 +44,28 @@ pub fn sample(judge: &mut Judge, options: &Options) -> io::Result<bool> {
     Ok(true)
 }
 
-/// Texts and tables under one schema with their answers; `None` if there is a difference that no entry covers.
+/// Texts and tables under one schema with their answers; `None` if there is a difference that no
+/// entry covers.
 fn agreed(
     judge: &mut Judge,
     setting: &Setting,
     random: &mut Random,
 ) -> io::Result<Option<Exchange>> {
-    let texts: Vec<Vec<u8>> = (0..TEXTS_OF_A_SCHEMA).map(|_| random_text(setting, random)).collect();
-    let tables: Vec<Table> =
-        (0..TABLES_OF_A_SCHEMA).map(|_| generate::table::table(&setting.schema, setting.root, random)).collect();
+    let texts: Vec<Vec<u8>> =
+        (0..TEXTS_OF_A_SCHEMA).map(|_| random_text(setting, random)).collect();
+    let tables: Vec<Table> = (0..TABLES_OF_A_SCHEMA)
+        .map(|_| generate::table::table(&setting.schema, setting.root, random))
+        .collect();
     let readings = judge.texts(setting, &texts)?;
     let printings = judge.tables(setting, &tables)?;
-    if readings.iter().any(|r| r.verdict == Verdict::Different) || printings.iter().any(|p| !p.same) {
+    if readings.iter().any(|r| r.verdict == Verdict::Different) || printings.iter().any(|p| !p.same)
+    {
         return Ok(None);
     }
-    let exchanges = readings.into_iter().map(|r| r.exchange).chain(printings.into_iter().map(|p| p.exchange));
-    let short = exchanges.filter(|e| e.iter().all(|(request, _)| request.len() <= LONGEST_LINE && !request.ends_with(EMPTY_TEXT)));
+    let exchanges =
+        readings.into_iter().map(|r| r.exchange).chain(printings.into_iter().map(|p| p.exchange));
+    let short = exchanges.filter(|e| {
+        e.iter().all(|(request, _)| request.len() <= LONGEST_LINE && !request.ends_with(EMPTY_TEXT))
+    });
     Ok(Some(short.flatten().collect()))
 }

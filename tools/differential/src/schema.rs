@@ -183,7 +183,8 @@ pub fn schema_e() -> Schema {
     Schema { messages: vec![fields], ..Schema::default() }
 }
 
-/// A schema with a short name for each type and label: the entries and the short texts are about it.
+/// A schema with a short name for each type and label: the entries and the short texts are about
+/// it.
 pub fn schema_x() -> Schema {
     use Label::{Map, Optional, Repeated, Required};
     let first = vec![
@@ -209,7 +210,11 @@ pub fn schema_x() -> Schema {
     let second = vec![field("q", 1, Required, 0, I32, 0), field("w", 2, Optional, 0, MESSAGE, 2)];
     let small = vec![value("NO", 3)];
     let modes = vec![value("ON", 7), value("OFF", 0), value("NEG", -1), value("nan", 9)];
-    Schema { messages: vec![first, second, Vec::new()], enums: vec![small, modes], ..Schema::default() }
+    Schema {
+        messages: vec![first, second, Vec::new()],
+        enums: vec![small, modes],
+        ..Schema::default()
+    }
 }
 
 fn field(name: &str, number: u32, label: Label, key: u8, kind: u8, reference: usize) -> Field {

@@ -2,7 +2,8 @@
 
 use std::io;
 
-use crate::judge::{Judge, Table, Verdict};
+use crate::judge::{Judge, Verdict};
+use crate::requests::Table;
 use crate::setting::Setting;
 
 const NODE_WORDS: usize = 5;
@@ -10,7 +11,7 @@ const KIND_ENTRY: u32 = 10;
 
 /// Bytes put to the two programs at once, and in all, while one text is made smaller.
 const BATCH_BYTES: usize = 1 << 22;
-const MOST_BYTES: usize = 1 << 28;
+const MOST_BYTES: usize = 1 << 26;
 
 /// Deletes bytes, first in long stretches, then one by one, while the difference stays.
 pub fn text(judge: &mut Judge, setting: &Setting, start: &[u8]) -> io::Result<Vec<u8>> {
@@ -23,7 +24,8 @@ pub fn text(judge: &mut Judge, setting: &Setting, start: &[u8]) -> io::Result<Ve
         while at < best.len() && tried < MOST_BYTES {
             let places = (at..best.len().min(at + batch)).step_by(stretch);
             let smaller = places.map(|place| without(&best, place, stretch));
-            let candidates: Vec<Vec<u8>> = smaller.filter(|c| std::str::from_utf8(c).is_ok()).collect();
+            let candidates: Vec<Vec<u8>> =
+                smaller.filter(|c| std::str::from_utf8(c).is_ok()).collect();
             tried += candidates.iter().map(Vec::len).sum::<usize>();
             match first_different(judge, setting, &candidates)? {
                 Some(found) => best = candidates[found].clone(),
@@ -35,7 +37,11 @@ pub fn text(judge: &mut Judge, setting: &Setting, start: &[u8]) -> io::Result<Ve
     Ok(best)
 }
 
-fn first_different(judge: &mut Judge, setting: &Setting, texts: &[Vec<u8>]) -> io::Result<Option<usize>> {
+fn first_different(
+    judge: &mut Judge,
+    setting: &Setting,
+    texts: &[Vec<u8>],
+) -> io::Result<Option<usize>> {
     let readings = judge.texts(setting, texts)?;
     Ok(readings.iter().position(|r| r.verdict == Verdict::Different))
 }
@@ -59,7 +65,8 @@ pub fn table(judge: &mut Judge, setting: &Setting, start: &Table) -> io::Result<
     }
 }
 
-/// The table without node `index` and its descendants; `None` for a child of an entry, which needs both.
+/// The table without node `index` and its descendants; `None` for a child of an entry, which needs
+/// both.
 fn without_node(table: &Table, index: usize) -> Option<Table> {
     let end_of = |i: usize| table.words[i * NODE_WORDS + 4] as usize;
     let length = end_of(0);

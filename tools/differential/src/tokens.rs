@@ -70,7 +70,8 @@ fn run(text: &[u8], at: usize, inside: impl Fn(u8) -> bool) -> usize {
 }
 
 fn other(text: &[u8], at: usize) -> (Token, usize) {
-    let letter = std::str::from_utf8(&text[at..]).ok().and_then(|t| t.chars().next()).unwrap_or('\0');
+    let letter =
+        std::str::from_utf8(&text[at..]).ok().and_then(|t| t.chars().next()).unwrap_or('\0');
     let bad = match letter {
         c if c.is_whitespace() => Bad::Space,
         c if c.is_alphabetic() => Bad::Letter,
@@ -105,7 +106,9 @@ fn integer(text: &[u8], at: usize) -> (Token, usize) {
 /// The value of digits, `None` over 64 bits.
 pub fn value_of(digits: &[u8], radix: u32) -> Option<u64> {
     let digit = |b: u8| char::from(b).to_digit(radix).map(u64::from);
-    digits.iter().try_fold(0u64, |value, b| value.checked_mul(u64::from(radix))?.checked_add(digit(*b)?))
+    digits
+        .iter()
+        .try_fold(0u64, |value, b| value.checked_mul(u64::from(radix))?.checked_add(digit(*b)?))
 }
 
 /// Ended by the same quote, a backslash taking the next byte along, no newline or zero byte inside.

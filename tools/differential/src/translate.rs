@@ -1,9 +1,11 @@
 //! A text as the crate has to be asked, so that it should answer as document 01 wants.
 //!
-//! Each listed difference is a spelling that the crate's lexer takes otherwise. Here such a spelling is replaced by one that the
-//! crate takes as document 01 takes the first: `012` by `10`, an unknown escape by a token that nothing expects, and so on. So the
-//! comparison goes on inside the listed differences too: the program under test must answer the text as the crate answers
-//! its translation. Reading ends at or before a bad or unexpected token, so the translation ends there as well.
+//! Each listed difference is a spelling that the crate's lexer takes otherwise. Here such a
+//! spelling is replaced by one that the crate takes as document 01 takes the first: `012` by `10`,
+//! an unknown escape by a token that nothing expects, and so on. So the comparison goes on inside
+//! the listed differences too: the program under test must answer the text as the crate answers its
+//! translation. Reading ends at or before a bad or unexpected token, so the translation ends there
+//! as well.
 
 use crate::escapes::{respell, Respelled};
 use crate::rules::{Rule, Rules};
@@ -31,7 +33,10 @@ pub struct Translation {
 enum Scope {
     Message(usize),
     /// An entry: the message that its value is, if any, and whether `value` was seen.
-    Entry { value: Option<usize>, seen: bool },
+    Entry {
+        value: Option<usize>,
+        seen: bool,
+    },
     /// Not what the schema has there; reading ends here.
     Lost,
 }
@@ -153,7 +158,9 @@ impl Translator<'_> {
     /// The crate takes `0` then digits as decimal.
     fn octal(&mut self, value: Option<u64>, bytes: &[u8]) -> Next {
         match value {
-            Some(v) if value_of(bytes, 10) != value => self.instead(Rule::Octal, v.to_string().as_bytes(), bytes),
+            Some(v) if value_of(bytes, 10) != value => {
+                self.instead(Rule::Octal, v.to_string().as_bytes(), bytes)
+            }
             _ => self.copy(bytes),
         }
     }
@@ -204,16 +211,21 @@ impl Translator<'_> {
 
     /// The scope that an opener after the last name opens.
     fn opened(&self) -> Scope {
-        let Some(name) = &self.last_name else { return Scope::Lost };
+        let Some(name) = &self.last_name else {
+            return Scope::Lost;
+        };
         match self.scopes.last() {
             Some(Scope::Message(message)) => match self.schema.field(*message, name) {
-                Some(field) if field.label == Label::Map => {
-                    Scope::Entry { value: (field.kind == MESSAGE).then_some(field.reference), seen: false }
-                }
+                Some(field) if field.label == Label::Map => Scope::Entry {
+                    value: (field.kind == MESSAGE).then_some(field.reference),
+                    seen: false,
+                },
                 Some(field) if field.kind == MESSAGE => Scope::Message(field.reference),
                 _ => Scope::Lost,
             },
-            Some(Scope::Entry { value: Some(message), .. }) if name == "value" => Scope::Message(*message),
+            Some(Scope::Entry { value: Some(message), .. }) if name == "value" => {
+                Scope::Message(*message)
+            }
             _ => Scope::Lost,
         }
     }
@@ -221,7 +233,52 @@ impl Translator<'_> {
     /// Whether an entry closes here whose default message would stand at depth 33.
     fn default_is_too_deep(&self) -> bool {
         let depth = self.scopes.len().saturating_sub(1);
-        let lacks_message = matches!(self.scopes.last(), Some(Scope::Entry { value: Some(_), seen: false }));
+        let lacks_message =
+            matches!(self.scopes.last(), Some(Scope::Entry { value: Some(_), seen: false }));
         depth == MOST_DEPTH && lacks_message
+    }
+}
+
+#[cfg(test)]
+mod tests {
+    use super::*;
+    use crate::schema::schema_x;
+
+    fn translated(text: &str, without: &[Rule]) -> String {
+        let rules = Rules::all_but(without.to_vec());
+        let made = translate(&schema_x(), 0, text.as_bytes(), &rules);
+        String::from_utf8(made.text).unwrap()
+    }
+
+    #[test]
+    fn common_spellings_stay() {
+        let text = "i: -0x1F # 012 'a\n m <si {key: 'é\\101\\x41\\n' value: 07}> b:true";
+        assert_eq!(translated(text, &[]), text);
+    }
+
+    #[test]
+    fn listed_spellings_are_replaced() {
+        assert_eq!(translated("i: 012 l: 1", &[]), "i: 10 l: 1");
+        assert_eq!(translated("i:1l:2", &[]), "i:\x01");
+        assert_eq!(translated("inf: 1", &[]), "inf_is_a_name: 1");
+        assert_eq!(translated("s: 'a' 'b'", &[]), "s: 'a' ,");
+        assert_eq!(translated("s: '\\x4\\18' i: 1", &[]), "s: '\\004\\0018' i: 1");
+        assert_eq!(translated("s: '\\q' i: 1", &[]), "s: ,");
+    }
+
+    #[test]
+    fn a_rule_taken_out_leaves_its_spelling() {
+        assert_eq!(translated("i: 012 l: 08", &[Rule::Octal]), "i: 012 l: \x01");
+        assert_eq!(translated("i: 012 l: 08 é", &[Rule::NotOctal]), "i: 10 l: 08 é");
+        assert_eq!(translated("y: '\\x4\\18'", &[Rule::HexEscape]), "y: '\\x4\\0018'");
+    }
+
+    #[test]
+    fn depth_33_is_cut() {
+        let open = |levels: usize| "m{".repeat(levels);
+        assert_eq!(translated(&open(32), &[]), open(32));
+        assert_eq!(translated(&open(33), &[]), open(32) + "m,");
+        assert_eq!(translated(&(open(31) + "bm{}"), &[]), open(31) + "bm{,");
+        assert_eq!(translated(&(open(31) + "si{}"), &[]), open(31) + "si{}");
     }
 }

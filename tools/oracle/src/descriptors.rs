@@ -1,7 +1,9 @@
-//! A schema as descriptors of the crate: one proto2 file, message N named `MN`, enum N inside a message `EN`.
+//! A schema as descriptors of the crate: one proto2 file, message N named `MN`, enum N inside a
+//! message `EN`.
 //!
-//! Names that the image doesn't give (messages, enums, map entries) can't clash with each other, and the ones it gives
-//! stand inside them: a field in its message, an enum's values in a message of their own.
+//! Names that the image doesn't give (messages, enums, map entries) can't clash with each other,
+//! and the ones it gives stand inside them: a field in its message, an enum's values in a message
+//! of their own.
 
 use protobuf::descriptor::field_descriptor_proto::{Label, Type};
 use protobuf::descriptor::{
@@ -56,7 +58,8 @@ fn file_of_schema(schema: &Schema) -> Option<FileDescriptorProto> {
 fn message_proto(schema: &Schema, index: usize, span: Span) -> Option<DescriptorProto> {
     let mut message = DescriptorProto::new();
     message.set_name(message_name(index));
-    for (place, field) in schema.fields.get(span.first..span.first + span.count)?.iter().enumerate() {
+    for (place, field) in schema.fields.get(span.first..span.first + span.count)?.iter().enumerate()
+    {
         let mut proto = plain_field(&field.name, field.number);
         if field.label == LABEL_MAP {
             let entry = format!("F{place}Entry");
@@ -76,7 +79,8 @@ fn message_proto(schema: &Schema, index: usize, span: Span) -> Option<Descriptor
     Some(message)
 }
 
-/// A field without label and type. The JSON name is the name itself: default JSON names can collide.
+/// A field without label and type. The JSON name is the name itself: default JSON names can
+/// collide.
 fn plain_field(name: &str, number: i32) -> FieldDescriptorProto {
     let mut proto = FieldDescriptorProto::new();
     proto.set_name(name.to_owned());

@@ -1,4 +1,5 @@
-//! The Rust crate protobuf 3.7.2 under the line protocol of the program `replay`, as far as it can answer.
+//! The Rust crate protobuf 3.7.2 under the line protocol of the program `replay`, as far as it can
+//! answer.
 
 mod descriptors;
 mod hex;

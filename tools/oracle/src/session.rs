@@ -38,7 +38,8 @@ impl Session {
     }
 
     fn set_schema(&mut self, image: &str) {
-        self.descriptors = from_hex(image).and_then(|i| schema_of_image(&i)).and_then(Descriptors::new);
+        self.descriptors =
+            from_hex(image).and_then(|i| schema_of_image(&i)).and_then(Descriptors::new);
         self.message = None;
     }
 
@@ -58,8 +59,12 @@ impl Session {
     }
 
     fn read(&mut self, text: &str) -> String {
-        let Some(descriptors) = &self.descriptors else { return "T no schema".to_owned() };
-        let Some(root) = descriptors.message(self.root) else { return "T no root".to_owned() };
+        let Some(descriptors) = &self.descriptors else {
+            return "T no schema".to_owned();
+        };
+        let Some(root) = descriptors.message(self.root) else {
+            return "T no root".to_owned();
+        };
         let Some(text) = from_hex(text).and_then(|t| String::from_utf8(t).ok()) else {
             return "T no utf8".to_owned();
         };

@@ -1,9 +1,11 @@
 //! A node table and its pool as a message of the crate, by reflection, node after node.
 //!
-//! What is replaced is left to the crate: a singular field is set again, a map key inserted again. This is no check of
-//! the table: what can't be followed gives `None`.
+//! What is replaced is left to the crate: a singular field is set again, a map key inserted again.
+//! This is no check of the table: what can't be followed gives `None`.
 
-use protobuf::reflect::{FieldDescriptor, MessageDescriptor, ReflectValueBox, RuntimeFieldType, RuntimeType};
+use protobuf::reflect::{
+    FieldDescriptor, MessageDescriptor, ReflectValueBox, RuntimeFieldType, RuntimeType,
+};
 use protobuf::MessageDyn;
 
 use crate::descriptors::Descriptors;
@@ -35,7 +37,13 @@ impl Table<'_> {
     fn node(&self, index: usize) -> Option<Node> {
         let words = self.words.get(index * NODE_WORDS..(index + 1) * NODE_WORDS)?;
         let end = usize::try_from(words[4]).ok()?;
-        (end > index).then_some(Node { kind: words[0], field: words[1], high: words[2], low: words[3], end })
+        (end > index).then_some(Node {
+            kind: words[0],
+            field: words[1],
+            high: words[2],
+            low: words[3],
+            end,
+        })
     }
 
     /// The message that stands under node `index`.
@@ -105,7 +113,8 @@ impl Table<'_> {
     ) -> Option<(ReflectValueBox, ReflectValueBox)> {
         let first = index + 1;
         let second = self.node(first)?.end;
-        let (key, value) = if self.node(first)?.field == 0 { (first, second) } else { (second, first) };
+        let (key, value) =
+            if self.node(first)?.field == 0 { (first, second) } else { (second, first) };
         Some((self.value(key_type, key, 0)?, self.value(value_type, value, reference)?))
     }
 
@@ -117,7 +126,9 @@ impl Table<'_> {
             RuntimeType::U32 => ReflectValueBox::U32(node.low),
             RuntimeType::U64 => ReflectValueBox::U64(number(&node)),
             RuntimeType::Bool => ReflectValueBox::Bool(node.low != 0),
-            RuntimeType::String => ReflectValueBox::String(String::from_utf8(self.bytes(&node)?).ok()?),
+            RuntimeType::String => {
+                ReflectValueBox::String(String::from_utf8(self.bytes(&node)?).ok()?)
+            }
             RuntimeType::VecU8 => ReflectValueBox::Bytes(self.bytes(&node)?),
             RuntimeType::Enum(d) => ReflectValueBox::Enum(d.clone(), node.low as i32),
             RuntimeType::Message(_) => ReflectValueBox::Message(self.body(index, reference)?),

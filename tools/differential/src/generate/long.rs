@@ -1,6 +1,6 @@
 //! Texts and a table at the limits of size, for schema X.
 
-use crate::judge::Table;
+use crate::requests::Table;
 use crate::schema::{I32, MESSAGE};
 
 const LONGEST_TEXT: usize = 1_048_576;

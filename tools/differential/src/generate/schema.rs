@@ -4,13 +4,15 @@ use std::collections::HashSet;
 
 use crate::random::Random;
 use crate::schema::{
-    schema_e, schema_x, EnumValue, Field, Label, Schema, BOOL, ENUM, I32, LONGEST_NAME, MESSAGE, MOST_ENUMS,
-    MOST_FIELDS, MOST_FIELD_NUMBER, MOST_MESSAGES, MOST_VALUES, STRING,
+    schema_e, schema_x, EnumValue, Field, Label, Schema, BOOL, ENUM, I32, LONGEST_NAME, MESSAGE,
+    MOST_ENUMS, MOST_FIELDS, MOST_FIELD_NUMBER, MOST_MESSAGES, MOST_VALUES, STRING,
 };
 
-/// Names that stand for something elsewhere: in an entry, as a bool, as a float for the crate, as hex digits.
+/// Names that stand for something elsewhere: in an entry, as a bool, as a float for the crate, as
+/// hex digits.
 const SPECIAL_NAMES: &[&str] = &[
-    "key", "value", "true", "false", "inf", "nan", "_", "__", "a1", "a_1", "A1", "x", "e5", "Key", "infinity", "nanx", "x0",
+    "key", "value", "true", "false", "inf", "nan", "_", "__", "a1", "a_1", "A1", "x", "e5", "Key",
+    "infinity", "nanx", "x0",
 ];
 
 const NAME_LETTERS: &[u8] = b"abcdefghijklmnopqrstuvwxyzABCDEFGHIJKLMNOPQRSTUVWXYZ_0123456789";
@@ -35,7 +37,13 @@ fn wide(random: &mut Random) -> Schema {
     }
 }
 
-fn sized(random: &mut Random, messages: usize, fields: usize, enums: usize, values: usize) -> Schema {
+fn sized(
+    random: &mut Random,
+    messages: usize,
+    fields: usize,
+    enums: usize,
+    values: usize,
+) -> Schema {
     let count = random.between(1, messages);
     let enum_count = random.between(0, enums);
     let mut schema = Schema { share: random.chance(50), ..Schema::default() };
@@ -63,7 +71,11 @@ fn name(random: &mut Random, used: &mut HashSet<String>) -> String {
         let name = if random.chance(12) {
             (*random.pick(SPECIAL_NAMES)).to_owned()
         } else {
-            let length = if random.chance(3) { random.between(1, LONGEST_NAME) } else { random.between(1, 4) };
+            let length = if random.chance(3) {
+                random.between(1, LONGEST_NAME)
+            } else {
+                random.between(1, 4)
+            };
             letters(random, length)
         };
         if used.insert(name.clone()) {
@@ -91,7 +103,13 @@ fn message(random: &mut Random, count: usize, messages: usize, enums: usize) -> 
         .collect()
 }
 
-fn field(random: &mut Random, name: String, numbers: &mut HashSet<u32>, messages: usize, enums: usize) -> Field {
+fn field(
+    random: &mut Random,
+    name: String,
+    numbers: &mut HashSet<u32>,
+    messages: usize,
+    enums: usize,
+) -> Field {
     let label = match random.below(10) {
         0..=3 => Label::Optional,
         4 => Label::Required,
@@ -104,7 +122,11 @@ fn field(random: &mut Random, name: String, numbers: &mut HashSet<u32>, messages
         MESSAGE => random.below(messages),
         _ => 0,
     };
-    let key = if label == Label::Map { random.between(usize::from(I32), usize::from(STRING)) as u8 } else { 0 };
+    let key = if label == Label::Map {
+        random.between(usize::from(I32), usize::from(STRING)) as u8
+    } else {
+        0
+    };
     Field { name, number: field_number(random, numbers), label, key, kind, reference }
 }
 

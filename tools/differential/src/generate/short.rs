@@ -7,10 +7,32 @@ pub struct Place {
     after: &'static str,
 }
 
-const TOKENS: &[&str] = &["i", "b", "m", "e", "ON", ":", "-", "1", "08", "{", "}", "<", ">", "'", " ", "#", "key", "value", "true", "é"];
-const IN_STRING: &[&str] = &["\\", "x", "0", "1", "4", "7", "8", "a", "n", "'", "\"", "\n", "\0", "é", " ", "f"];
-const DIGITS: &[&str] = &["0", "1", "7", "8", "9", "x", "X", "f", "g", ".", "e", "-", " ", "_", "l:", "\u{a0}"];
-const AFTER_NAME: &[&str] = &["0x", "'", "\\x", "\n", "\0", "<", "{", ">", "}", ":", "é", "(", "i", "1", "99999999999999999999", " "];
+const TOKENS: &[&str] = &[
+    "i", "b", "m", "e", "ON", ":", "-", "1", "08", "{", "}", "<", ">", "'", " ", "#", "key",
+    "value", "true", "é",
+];
+const IN_STRING: &[&str] =
+    &["\\", "x", "0", "1", "4", "7", "8", "a", "n", "'", "\"", "\n", "\0", "é", " ", "f"];
+const DIGITS: &[&str] =
+    &["0", "1", "7", "8", "9", "x", "X", "f", "g", ".", "e", "-", " ", "_", "l:", "\u{a0}"];
+const AFTER_NAME: &[&str] = &[
+    "0x",
+    "'",
+    "\\x",
+    "\n",
+    "\0",
+    "<",
+    "{",
+    ">",
+    "}",
+    ":",
+    "é",
+    "(",
+    "i",
+    "1",
+    "99999999999999999999",
+    " ",
+];
 
 pub const PLACES: &[Place] = &[
     Place { before: "", alphabet: TOKENS, after: "" },
@@ -32,9 +54,15 @@ pub fn texts(place: &Place, most: usize) -> Vec<Vec<u8>> {
     let mut all = Vec::new();
     let mut last: Vec<String> = vec![String::new()];
     for length in 0..=most {
-        all.extend(last.iter().map(|middle| format!("{}{middle}{}", place.before, place.after).into_bytes()));
+        all.extend(
+            last.iter()
+                .map(|middle| format!("{}{middle}{}", place.before, place.after).into_bytes()),
+        );
         if length < most {
-            last = last.iter().flat_map(|m| place.alphabet.iter().map(move |a| format!("{m}{a}"))).collect();
+            last = last
+                .iter()
+                .flat_map(|m| place.alphabet.iter().map(move |a| format!("{m}{a}")))
+                .collect();
         }
     }
     all

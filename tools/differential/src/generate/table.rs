@@ -1,10 +1,11 @@
-//! Valid node tables with pools, as no text may bring them: shared and gapped runs, numbers without names, unknown fields.
+//! Valid node tables with pools, as no text may bring them: shared and gapped runs, numbers without
+//! names, unknown fields.
 
 use std::collections::HashMap;
 
 use crate::generate::values::{letters, number};
-use crate::judge::Table;
 use crate::random::Random;
+use crate::requests::Table;
 use crate::schema::{Field, Label, Schema, BYTES, MESSAGE, MOST_FIELD_NUMBER, STRING};
 
 const NODE_WORDS: usize = 5;
@@ -152,7 +153,8 @@ impl Builder<'_> {
     }
 
     fn any_run(&mut self) -> u64 {
-        let (a, b) = (self.random.below(self.pool.len() + 1), self.random.below(self.pool.len() + 1));
+        let (a, b) =
+            (self.random.below(self.pool.len() + 1), self.random.below(self.pool.len() + 1));
         Self::run(a.min(b), a.max(b))
     }
 
@@ -163,7 +165,8 @@ impl Builder<'_> {
             1 => self.random.between(1, MOST_FIELD_NUMBER as usize) as u32,
             _ => self.random.between(1, 12) as u32,
         };
-        let fresh = self.random.between(KIND_UNKNOWN_U32 as usize, KIND_UNKNOWN_BYTES as usize) as u32;
+        let fresh =
+            self.random.between(KIND_UNKNOWN_U32 as usize, KIND_UNKNOWN_BYTES as usize) as u32;
         let kind = *kinds.entry(number).or_insert(fresh);
         let value = match kind {
             KIND_UNKNOWN_U32 => u64::from(self.random.next() as u32 >> self.random.below(32)),

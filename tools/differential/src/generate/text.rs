@@ -4,7 +4,21 @@ use crate::generate::values::{bytes, letters, number, range};
 use crate::random::Random;
 use crate::schema::{Field, Label, Schema, BOOL, BYTES, ENUM, I32, I64, MESSAGE, STRING};
 
-const SPACES: &[&str] = &[" ", " ", " ", "\n", "\t", "\r", "\u{b}", "\u{c}", "  ", "\r\n", "#\n", "# c 'x' {\n", "#é\u{0}\r\n"];
+const SPACES: &[&str] = &[
+    " ",
+    " ",
+    " ",
+    "\n",
+    "\t",
+    "\r",
+    "\u{b}",
+    "\u{c}",
+    "  ",
+    "\r\n",
+    "#\n",
+    "# c 'x' {\n",
+    "#é\u{0}\r\n",
+];
 
 /// Where the two readers are known to part; kept rare, so that most texts go on to their end.
 const STRANGE_SPACES: &[&str] = &["\u{a0}", "\u{85}", "\u{3000}", "é"];
@@ -31,8 +45,32 @@ pub struct Odds {
 
 /// What stands where a value of any type is due, most often wrongly.
 const WRONG_VALUES: &[&str] = &[
-    "nope", "NOPE", "true", "True", "0", "1", "-1", "- 0", "2147483648", "-2147483649", "4294967296", "9223372036854775808", "-9223372036854775809",
-    "18446744073709551615", "18446744073709551616", "'x'", "''", "{}", "<>", "}", ":", ": 7", "[1]", "#", "key", "value",
+    "nope",
+    "NOPE",
+    "true",
+    "True",
+    "0",
+    "1",
+    "-1",
+    "- 0",
+    "2147483648",
+    "-2147483649",
+    "4294967296",
+    "9223372036854775808",
+    "-9223372036854775809",
+    "18446744073709551615",
+    "18446744073709551616",
+    "'x'",
+    "''",
+    "{}",
+    "<>",
+    "}",
+    ":",
+    ": 7",
+    "[1]",
+    "#",
+    "key",
+    "value",
 ];
 
 pub fn text(schema: &Schema, root: usize, random: &mut Random, odds: Odds) -> Vec<u8> {
@@ -60,7 +98,11 @@ impl Speller<'_> {
     }
 
     fn space(&mut self) {
-        let chosen = if self.is_strange() { *self.random.pick(STRANGE_SPACES) } else { *self.random.pick(SPACES) };
+        let chosen = if self.is_strange() {
+            *self.random.pick(STRANGE_SPACES)
+        } else {
+            *self.random.pick(SPACES)
+        };
         self.out.extend_from_slice(chosen.as_bytes());
         self.after_word = false;
     }
@@ -115,7 +157,8 @@ impl Speller<'_> {
         self.symbol(opener);
         for is_key in self.parts(field.kind != MESSAGE || levels > 0) {
             self.word(if is_key { "key" } else { "value" });
-            let (kind, reference) = if is_key { (field.key, 0) } else { (field.kind, field.reference) };
+            let (kind, reference) =
+                if is_key { (field.key, 0) } else { (field.kind, field.reference) };
             self.value(kind, reference, levels);
         }
         self.symbol("}");
@@ -143,8 +186,8 @@ impl Speller<'_> {
         if self.slips() {
             let colon = if self.random.chance(70) { ":" } else { "" };
             self.symbol(colon);
-            let wrong = *self.random.pick(WRONG_VALUES);
-            return self.word(wrong);
+            let wrong = self.wrong_value();
+            return self.word(&wrong);
         }
         if kind == MESSAGE {
             let (opener, closer) = if self.random.chance(70) { ("{", "}") } else { ("<", ">") };
@@ -173,6 +216,16 @@ impl Speller<'_> {
         }
     }
 
+    /// A value of another type, or the name of any enum's value.
+    fn wrong_value(&mut self) -> String {
+        let schema = self.schema;
+        if !schema.enums.is_empty() && self.random.chance(30) {
+            let values = self.random.pick(&schema.enums);
+            return self.random.pick(values).name.clone();
+        }
+        (*self.random.pick(WRONG_VALUES)).to_owned()
+    }
+
     fn bool(&mut self) {
         let word = if self.random.chance(50) { "true" } else { "false" };
         self.word(word);
@@ -198,7 +251,8 @@ impl Speller<'_> {
         self.word(&digits);
     }
 
-    /// Each byte by itself or as an escape; bytes over 127 by themselves only as part of whole letters.
+    /// Each byte by itself or as an escape; bytes over 127 by themselves only as part of whole
+    /// letters.
     fn string(&mut self, value: &[u8], is_text: bool) {
         let quote = if self.random.chance(50) { b'"' } else { b'\'' };
         if self.random.chance(40) {
@@ -232,13 +286,18 @@ impl Speller<'_> {
         self.out.extend_from_slice(spelled.as_bytes());
     }
 
-    /// One of the byte's escapes. Short octal ones only where no digit follows, unless that is wanted.
+    /// One of the byte's escapes. Short octal ones only where no digit follows, unless that is
+    /// wanted.
     fn escape(&mut self, byte: u8, next: Option<u8>) -> String {
         let strange = self.is_strange();
         let letter = b"\x07\x08\x0c\n\r\t\x0b?\\'\"".iter().position(|b| *b == byte);
-        let follows = |octal: bool| next.is_some_and(|n| if octal { n.is_ascii_digit() } else { n.is_ascii_hexdigit() });
+        let follows = |octal: bool| {
+            next.is_some_and(|n| if octal { n.is_ascii_digit() } else { n.is_ascii_hexdigit() })
+        };
         match self.random.below(4) {
-            0 if letter.is_some() => format!("\\{}", char::from(b"abfnrtv?\\'\""[letter.unwrap_or(0)])),
+            0 if letter.is_some() => {
+                format!("\\{}", char::from(b"abfnrtv?\\'\""[letter.unwrap_or(0)]))
+            }
             1 => format!("\\x{byte:02x}"),
             2 if strange && !follows(false) => format!("\\x{byte:X}"),
             3 if strange || !follows(true) => format!("\\{byte:o}"),

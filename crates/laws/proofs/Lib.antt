@@ -1,0 +1,11 @@
+-- Laws of the definitions that the crates above cite, a file for each concern.
+pub mod Lists
+pub mod ClassTable
+pub mod Reach
+pub mod Decoding
+pub mod Decimal
+pub mod Quoting
+pub mod Utf8Laws
+pub mod Ranges
+pub mod Loop
+pub mod Goes

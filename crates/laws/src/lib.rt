@@ -1,0 +1,1 @@
+// Laws of the definitions, which every crate above may cite: see proofs/.
