@@ -9,46 +9,58 @@ use crate::setting::Setting;
 const NODE_WORDS: usize = 5;
 const KIND_ENTRY: u32 = 10;
 
-/// Bytes put to the two programs at once, and in all, while one text is made smaller.
-const BATCH_BYTES: usize = 1 << 22;
-const MOST_BYTES: usize = 1 << 26;
+/// Letters put to the two programs at once, and in all, while a long text is made smaller.
+const BATCH_LETTERS: usize = 1 << 22;
+const MOST_LETTERS: usize = 1 << 26;
+/// Up to here every stretch of the text is tried.
+const SHORT: usize = 80;
 
-/// Deletes bytes, first in long stretches, then one by one, while the difference stays.
+/// Deletes letters while the difference stays: long stretches, then ever shorter ones, then any.
 pub fn text(judge: &mut Judge, setting: &Setting, start: &[u8]) -> io::Result<Vec<u8>> {
-    let mut best = start.to_vec();
-    let mut stretch = best.len().div_ceil(2);
+    let mut best: Vec<char> = String::from_utf8_lossy(start).chars().collect();
     let mut tried = 0;
-    while stretch > 0 && tried < MOST_BYTES {
-        let batch = (BATCH_BYTES / best.len().max(1)).max(1) * stretch;
+    // Powers of two: long texts are often repeats of two or four letters.
+    let mut stretch = best.len().next_power_of_two() / 2;
+    while stretch > 0 {
+        let batch = (BATCH_LETTERS / best.len().max(1)).max(1) * stretch;
         let mut at = 0;
-        while at < best.len() && tried < MOST_BYTES {
+        while at < best.len() && tried < MOST_LETTERS {
             let places = (at..best.len().min(at + batch)).step_by(stretch);
-            let smaller = places.map(|place| without(&best, place, stretch));
-            let candidates: Vec<Vec<u8>> =
-                smaller.filter(|c| std::str::from_utf8(c).is_ok()).collect();
-            tried += candidates.iter().map(Vec::len).sum::<usize>();
-            match first_different(judge, setting, &candidates)? {
-                Some(found) => best = candidates[found].clone(),
+            let smaller: Vec<_> = places.map(|place| without(&best, place, stretch)).collect();
+            tried += smaller.iter().map(Vec::len).sum::<usize>();
+            match first_different(judge, setting, &smaller)? {
+                Some(found) => best = found,
                 None => at += batch,
             }
         }
         stretch /= 2;
     }
-    Ok(best)
+    while best.len() <= SHORT {
+        let stretches = (1..=best.len()).rev();
+        let all = stretches.flat_map(|n| (0..=best.len() - n).map(move |at| (at, n)));
+        let smaller: Vec<_> = all.map(|(at, n)| without(&best, at, n)).collect();
+        match first_different(judge, setting, &smaller)? {
+            Some(found) => best = found,
+            None => break,
+        }
+    }
+    Ok(String::from_iter(best).into_bytes())
 }
 
 fn first_different(
     judge: &mut Judge,
     setting: &Setting,
-    texts: &[Vec<u8>],
-) -> io::Result<Option<usize>> {
-    let readings = judge.texts(setting, texts)?;
-    Ok(readings.iter().position(|r| r.verdict == Verdict::Different))
+    texts: &[Vec<char>],
+) -> io::Result<Option<Vec<char>>> {
+    let bytes: Vec<Vec<u8>> = texts.iter().map(|t| String::from_iter(t).into_bytes()).collect();
+    let readings = judge.texts(setting, &bytes)?;
+    let found = readings.iter().position(|r| r.verdict == Verdict::Different);
+    Ok(found.map(|i| texts[i].clone()))
 }
 
-fn without(bytes: &[u8], at: usize, count: usize) -> Vec<u8> {
-    let end = (at + count).min(bytes.len());
-    [&bytes[..at], &bytes[end..]].concat()
+fn without(letters: &[char], at: usize, count: usize) -> Vec<char> {
+    let end = (at + count).min(letters.len());
+    [&letters[..at], &letters[end..]].concat()
 }
 
 /// Deletes nodes with all below them while the difference stays.

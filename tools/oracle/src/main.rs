@@ -5,7 +5,7 @@ mod descriptors;
 mod hex;
 mod image;
 mod reading;
-mod session;
+mod state;
 mod table;
 
 use std::io::{self, BufRead, BufReader, BufWriter, Write};
@@ -16,14 +16,14 @@ const STACK_BYTES: usize = 1 << 30;
 const BUFFER_BYTES: usize = 1 << 16;
 
 fn serve() -> io::Result<()> {
-    let mut session = session::Session::default();
+    let mut state = state::State::default();
     let mut input = BufReader::with_capacity(BUFFER_BYTES, io::stdin());
     let mut output = BufWriter::with_capacity(BUFFER_BYTES, io::stdout().lock());
     let mut line = String::new();
     while input.read_line(&mut line)? > 0 {
         let request = line.trim_end_matches(['\n', '\r']);
         if !request.is_empty() && !request.starts_with('#') {
-            if let Some(answer) = session.request(request) {
+            if let Some(answer) = state.request(request) {
                 writeln!(output, "{answer}")?;
             }
         }

@@ -10,7 +10,7 @@ use crate::reading::refusal;
 use crate::table::Table;
 
 #[derive(Default)]
-pub struct Session {
+pub struct State {
     descriptors: Option<Descriptors>,
     root: usize,
     words: Vec<u32>,
@@ -19,7 +19,7 @@ pub struct Session {
     message: Option<Box<dyn MessageDyn>>,
 }
 
-impl Session {
+impl State {
     /// The answer to one line, `None` for a request that has no answer.
     pub fn request(&mut self, line: &str) -> Option<String> {
         let words: Vec<&str> = line.split(' ').collect();
