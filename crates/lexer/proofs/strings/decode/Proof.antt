@@ -1,0 +1,82 @@
+-- `lexer::strings::decode` meets its contract. The invariant: what is decoded and stored so far, and the rest to decode, make the whole.
+use borrow.Author.Needs.{needs}
+use mathlib.Core.Path.{sym, _∙_}
+use Prim.Native.Nat.{_-_}
+use native.Mathlib.Omega.{arith}
+use lib.ListN.{length}
+use Rattle.lexer.proofs.Pieces.{Turn, turn-start, turn-length, turn-done, turn-bad, turn-takes, turn-on}
+use Rattle.lexer.proofs.strings.decode.Statement.{statement}
+use Rattle.lexer.proofs.strings.decode.Tie as tie
+
+abbrev Inv-loop : tie.InvT-loop
+Inv-loop raw pool₀ at u₀ n₀ i₀ pool u n i = Turn raw pool₀ at pool u n i
+
+abbrev μ-loop : tie.MeasureT-loop
+μ-loop raw pool₀ at u₀ n₀ i₀ pool u n i = length raw - i
+
+loop-holds : tie.Need-loop-holds Inv-loop μ-loop
+loop-holds c = turn-start _ _ _
+
+first-piece-requires : tie.Need-first-piece-requires Inv-loop μ-loop
+first-piece-requires c κs = c .loop-test .taken
+
+enum-known-b : tie.Need-enum-known-b Inv-loop μ-loop
+enum-known-b c = search needs
+
+enum-told : tie.Need-enum-told Inv-loop μ-loop
+enum-told c = search needs
+
+same-length : tie.Need-same-length Inv-loop μ-loop
+same-length c = turn-length _ _ _ _ _ _ _ (c .before .before .before .before .loop .inv)
+
+returns : tie.Need-returns Inv-loop μ-loop
+returns c = turn-bad _ _ _ _ _ _ _ (c .before .before .before .before .loop .inv) (c .before .before .before .loop-test .taken) (sym (c .before .before .first-piece .ensures) ∙ c .enum-told .given .1)
+
+add-put : tie.Need-add-put Inv-loop μ-loop
+add-put c = omega (arith, c .before .before .before .before .before .before .loop .inv .few, c .before .before .before .before .before .loop-test .taken, c .before .before .before .before .before .before .before .before .before .pre)
+
+put-requires : tie.Need-put-requires Inv-loop μ-loop
+put-requires c κs = tt
+
+step-requires : tie.Need-step-requires Inv-loop μ-loop
+step-requires c κs = tt
+
+add-n : tie.Need-add-n Inv-loop μ-loop
+add-n c = omega (arith, c .before .before .before .before .before .before .before .before .before .before .loop .inv .few, c .before .before .before .before .before .before .before .before .before .loop-test .taken, c .before .before .before .before .before .before .before .before .before .before .before .before .before .pre)
+
+add-i : tie.Need-add-i Inv-loop μ-loop
+add-i c = omega (arith, turn-takes _ _ _ _ _ _ _ (c .before .before .before .before .before .before .before .before .before .before .loop .inv) (c .before .before .before .before .before .before .before .before .before .loop-test .taken) _ _ (sym (c .before .before .before .before .before .before .before .before .first-piece .ensures) ∙ c .before .before .before .before .before .before .b .given .1), c .before .before .before .before .before .before .before .before .before .before .before .before .before .pre)
+
+loop-less : tie.Need-loop-less Inv-loop μ-loop
+loop-less c = omega (arith, turn-takes _ _ _ _ _ _ _ (c .before .before .before .before .before .before .before .before .before .before .loop .inv) (c .before .before .before .before .before .before .before .before .before .loop-test .taken) _ _ (sym (c .before .before .before .before .before .before .before .before .first-piece .ensures) ∙ c .before .before .before .before .before .before .b .given .1), c .before .before .before .before .before .before .before .before .before .before .before .before .before .pre, c .before .before .before .before .before .before .before .before .before .loop-test .taken)
+
+loop-again : tie.Need-loop-again Inv-loop μ-loop
+loop-again c = turn-on _ _ _ _ _ _ _ (c .before .before .before .before .before .before .before .before .before .before .loop .inv) (c .before .before .before .before .before .before .before .before .before .loop-test .taken) _ _ (sym (c .before .before .before .before .before .before .before .before .first-piece .ensures) ∙ c .before .before .before .before .before .before .b .given .1) _ _ (c .before .before .before .put .ensures) (c .step .ensures)
+
+same-length-2 : tie.Need-same-length-2 Inv-loop μ-loop
+same-length-2 c = turn-length _ _ _ _ _ _ _ (c .before .before .loop .inv)
+
+returns-2 : tie.Need-returns-2 Inv-loop μ-loop
+returns-2 c = turn-done _ _ _ _ _ _ _ (c .before .before .loop .inv) (c .before .loop-test .left)
+
+pub decode-spec : {M : Type 1} → statement M
+decode-spec =
+    tie.close
+    (tie.spec
+    Inv-loop
+    μ-loop
+    loop-holds
+    first-piece-requires
+    enum-known-b
+    enum-told
+    same-length
+    returns
+    add-put
+    put-requires
+    step-requires
+    add-n
+    add-i
+    loop-less
+    loop-again
+    same-length-2
+    returns-2)

@@ -1,0 +1,44 @@
+-- `lexer::tokens::string` meets its contract, by whether a quote closes the string.
+use mathlib.Core.Path.{sym, _∙_, ap}
+use borrow.Author.Needs.{needs}
+use Rattle.lexer.specs.Steps.{stepOf}
+use Rattle.lexer.proofs.Laws.{string-bad, string-good}
+use Rattle.lexer.proofs.tokens.string.Statement.{statement}
+use Rattle.lexer.proofs.tokens.string.Tie as tie
+
+add-string-end : tie.Need-add-string-end
+add-string-end c = search needs
+
+string-end-requires : tie.Need-string-end-requires
+string-end-requires c κs = (c .before .pre .0, c .before .pre .1)
+
+enum-known-next : tie.Need-enum-known-next
+enum-known-next c = search needs
+
+enum-told : tie.Need-enum-told
+enum-told c = search needs
+
+bad-requires : tie.Need-bad-requires
+bad-requires c κs = search needs
+
+returns : tie.Need-returns
+returns c = c .bad .ensures ∙ ap stepOf (string-bad (c .before .before .before .before .before .args .quote) (c .before .before .before .before .before .args .text .now) (c .before .before .before .before .before .args .at) (sym (c .before .before .before .string-end .ensures) ∙ c .before .enum-told .given .1))
+
+token-requires : tie.Need-token-requires
+token-requires c κs = search needs
+
+returns-2 : tie.Need-returns-2
+returns-2 c = c .token .ensures ∙ ap stepOf (string-good (c .before .before .before .before .before .before .args .quote) (c .before .before .before .before .before .before .args .text .now) (c .before .before .before .before .before .before .args .at) _ (sym (c .before .before .before .before .string-end .ensures) ∙ c .before .before .next .given .1))
+
+pub string-spec : {M : Type 1} → statement M
+string-spec =
+    tie.close
+    (tie.spec
+    add-string-end
+    string-end-requires
+    enum-known-next
+    enum-told
+    bad-requires
+    returns
+    token-requires
+    returns-2)
