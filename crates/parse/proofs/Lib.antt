@@ -6,3 +6,4 @@ pub mod Wants
 pub mod Joins
 pub mod Turns
 pub mod Nested
+pub mod Wholes

@@ -21,6 +21,8 @@ use Rattle.lexer.specs.declared.tokens.Step.{Step}
 use Rattle.lexer.specs.declared.tokens.Step.the-variants as step
 use Rattle.parse.specs.declared.Answer.{Answer}
 use Rattle.parse.specs.declared.Answer.the-variants as answer
+use Rattle.parse.specs.declared.Read.{Read}
+use Rattle.parse.specs.declared.Read.the-variants as read
 
 -- ---- answers, with document 01's numbers
 
@@ -107,3 +109,7 @@ KeyNoted w i key r = (q p : Spot) (value : Bool) → r ≡ noted (within w) i (s
 
 abbrev pub ValueNoted : Want → ℕ → Bool → Bool → Type 0
 ValueNoted w i value r = (q p : Spot) (key : Bool) → r ≡ noted (within w) i (standing q key value) p .value
+
+abbrev pub refusalOf : Answer → Read
+refusalOf (answer.Done q) = read.Made (q .node) (q .byte)
+refusalOf (answer.No why at) = read.No why at

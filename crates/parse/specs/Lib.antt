@@ -1,2 +1,3 @@
 -- What the readers presume and answer.
 pub mod Answers
+pub mod Whole

@@ -23,13 +23,21 @@ ghost use Rattle.definitions.specs.Scope.{want, within, findIn, nests, string, 
 ghost use Rattle.definitions.specs.Integers.{mostUnsigned, mostSigned};
 ghost use Rattle.definitions.specs.Tokens.{token, scan};
 ghost use Rattle.definitions.specs.Nodes.{words, widen};
-ghost use Rattle.definitions.specs.Reading.{numberLeaf, integerTok, unsigned, signedValue, boolValue, enumValue, stringValue, scalar, afterName, field, default, unless, closed, again, under, readBody};
+ghost use Rattle.definitions.specs.Reading.{numberLeaf, integerTok, unsigned, signedValue, boolValue, enumValue, stringValue, scalar, afterName, field, default, unless, closed, again, under, readBody, nodeRoom};
 ghost use Rattle.schema.specs.Known.{Known, foundOf};
-ghost use Rattle.parse.specs.Answers.{badOf, putAt, Fair, Ready, Fits, Holds, Reached, Answers, AnswersHere, Inside, closerFor, signedWidth, unsignedWidth, standing, KeyNoted, ValueNoted};
+ghost use Rattle.parse.specs.Answers.{badOf, putAt, Fair, Ready, Fits, Holds, Reached, Answers, AnswersHere, Inside, closerFor, signedWidth, unsignedWidth, standing, KeyNoted, ValueNoted, refusalOf};
+ghost use Rattle.parse.specs.Whole.{readOf, fittedRead, fittedNodes, fittedPool};
+ghost use Rattle.definitions.specs.Image.{messageCount};
 
 // What reading gives: the spot after, or the first fault with its place.
 pub enum Answer {
     Done(Spot),
+    No(u8, Place),
+}
+
+// What reading a whole text gives: how many nodes and pool bytes were made, or a refusal's number and place.
+pub enum Read {
+    Made(usize, usize),
     No(u8, Place),
 }
 
@@ -704,5 +712,86 @@ fn read_message(
         here = next;
         key = has_key(w, i, key);
         value = has_value(w, i, value);
+    }
+}
+
+// The nodes that so many words hold.
+fn node_room(words: usize) -> usize
+    ensures { λ r. ⌜ r ≡ nodeRoom words ⌝ }
+{
+    let room = words / 5;
+    if 65535 < room { 65535 } else { room }
+}
+
+// A whole text: the first pass counts and finds the first fault, over empty parts of the table and the pool; the second stores.
+pub fn read_text(
+    image: &[u8],
+    layout: Layout,
+    root: usize,
+    s: &[u8],
+    nodes: &mut [u32],
+    pool: &mut [u8],
+) -> Read
+    requires { ⌜ Known (now image) layout × (root < messageCount (now image)) × (length (now s) ≤ mostText) ⌝ }
+    ensures answer { λ r. ⌜ r ≡ readOf (fittedRead (now (image .entry)) root (now (s .entry)) (length (now (nodes .entry))) (length (now (pool .entry)))) ⌝ }
+    ensures table { λ _. ⌜ now (nodes .exit) ≡ fittedNodes (now (image .entry)) root (now (s .entry)) (now (nodes .entry)) (length (now (pool .entry))) ⌝ }
+    ensures bytes { λ _. ⌜ now (pool .exit) ≡ fittedPool (now (image .entry)) root (now (s .entry)) (length (now (nodes .entry))) (now (pool .entry)) ⌝ }
+{
+    let table = lexer::classes::table();
+    let start = Spot {
+        at: 0,
+        node: 1,
+        byte: 0,
+    };
+    let w = Want {
+        kind: 9,
+        reference: root,
+        field: 0,
+    };
+    let counted = read_message(
+        s,
+        image,
+        layout,
+        &table,
+        w,
+        0,
+        32,
+        start,
+        &mut nodes[..0],
+        &mut pool[..0],
+    );
+    let Answer::Done(next) = counted else {
+        return refusal(counted);
+    };
+    let n = next.node;
+    let b = next.byte;
+    if node_room(nodes.len()) < n {
+        return Read::No(13, Place { offset: n });
+    }
+    if pool.len() < b {
+        return Read::No(14, Place { offset: b });
+    }
+    read_message(s, image, layout, &table, w, 0, 32, start, nodes, pool);
+    put(
+        nodes,
+        0,
+        Node {
+            kind: 9,
+            field: 0,
+            high: 0,
+            low: 0,
+            end: n as u32,
+        },
+    );
+    Read::Made(n, b)
+}
+
+// A refusal, passed on.
+fn refusal(a: Answer) -> Read
+    ensures { λ r. ⌜ r ≡ refusalOf a ⌝ }
+{
+    match a {
+        Answer::No(why, at) => Read::No(why, at),
+        Answer::Done(q) => Read::Made(q.node, q.byte),
     }
 }

@@ -1,0 +1,2 @@
+-- Laws that the entry points' proofs cite.
+pub mod Ends

@@ -1,0 +1,1 @@
+-- The entry points cite the definitions themselves.
