@@ -9,3 +9,5 @@ pub mod Utf8Laws
 pub mod Ranges
 pub mod Loop
 pub mod Goes
+pub mod Forest
+pub mod Canon

@@ -1,2 +1,3 @@
 -- Laws that the entry points' proofs cite.
 pub mod Ends
+pub mod Tables

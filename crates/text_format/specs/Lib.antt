@@ -1,1 +1,2 @@
--- The entry points cite the definitions themselves.
+-- What the entry points answer, with document 01's numbers and values.
+pub mod Answers

@@ -1,11 +1,15 @@
 // The library's entry points. Any bytes may be handed in as schema, text, nodes or pool: every call ends, and answers or refuses by
 // a number of document 01. A refused call changes no byte or word that it was lent.
 use definitions::Place;
+use message::access::Run;
 use parse::Read;
 ghost use mathlib.Core.Path.{_≡_};
 ghost use lib.ListN.{length};
 ghost use Rattle.definitions.specs.Reading.{readAnswer, readNodes, readPool};
+ghost use Rattle.definitions.specs.Required.{requiredAnswer};
+ghost use Rattle.definitions.specs.Access.{valueAnswer, valueBytes};
 ghost use Rattle.parse.specs.Whole.{readOf};
+ghost use Rattle.text_format.specs.Answers.{barNumber, tableBarred, checkedOf, valuedOf};
 
 // Reads a text into a node table and a pool.
 //
@@ -30,4 +34,82 @@ pub fn read(image: &[u8], root: usize, text: &[u8], nodes: &mut [u32], pool: &mu
     }
     let layout = schema::layout_of(image);
     parse::read_text(image, layout, root, text, nodes, pool)
+}
+
+// What the required check gives: no required field is missing, or a refusal's number and place.
+pub enum Checked {
+    Complete,
+    No(u8, Place),
+}
+
+// What access to a value gives: there is one, or a refusal's number and place.
+pub enum Valued {
+    Given,
+    No(u8, Place),
+}
+
+// What bars every call over a table: 1 a bad schema, 2 no such message, 15 an invalid table; 0 for nothing.
+fn table_bar(image: &[u8], root: usize, nodes: &[u32], pool: &[u8]) -> u8
+    ensures { λ r. ⌜ r ≡ barNumber (tableBarred (now (image .entry)) root (now (nodes .entry)) (now (pool .entry))) ⌝ }
+{
+    if !schema::check(image) {
+        return 1;
+    }
+    if schema::message_count(image) <= root {
+        return 2;
+    }
+    let layout = schema::layout_of(image);
+    if !message::valid::is_valid(image, layout, root, nodes, pool) {
+        return 15;
+    }
+    0
+}
+
+// Whether each live message of a table, the root included, has its required fields.
+//
+// In order: 1 the image is no schema; 2 it has no such message; 15 the table is not valid for schema, root and pool; 17 a required field is missing.
+pub fn check_required(image: &[u8], root: usize, nodes: &[u32], pool: &[u8]) -> Checked
+    ensures { λ r. ⌜ r ≡ checkedOf (requiredAnswer (now (image .entry)) root (now (nodes .entry)) (now (pool .entry))) ⌝ }
+{
+    let why = table_bar(image, root, nodes, pool);
+    if why != 0 {
+        return Checked::No(why, Place { offset: 0 });
+    }
+    let layout = schema::layout_of(image);
+    if message::required::has_required(image, layout, root, nodes, pool) {
+        return Checked::Complete;
+    }
+    Checked::No(17, Place { offset: 0 })
+}
+
+// Whether node `index` of a table is a string or bytes value. In order: 1, 2 and 15 as for `check_required`; 18 there is no such value.
+pub fn value_number(image: &[u8], root: usize, nodes: &[u32], pool: &[u8], index: usize) -> Valued
+    ensures { λ r. ⌜ r ≡ valuedOf (valueAnswer (now (image .entry)) root (now (nodes .entry)) (now (pool .entry)) index) ⌝ }
+{
+    let why = table_bar(image, root, nodes, pool);
+    if why != 0 {
+        return Valued::No(why, Place { offset: 0 });
+    }
+    let run = message::access::value_run(nodes, index);
+    if let Run::At(_, _) = run {
+        return Valued::Given;
+    }
+    Valued::No(18, Place { offset: 0 })
+}
+
+// The bytes of a string or bytes value, lent as a part of the pool; empty where `value_number` refuses.
+pub fn value_bytes<'a>(
+    image: &[u8],
+    root: usize,
+    nodes: &[u32],
+    pool: &'a [u8],
+    index: usize,
+) -> &'a [u8]
+    ensures { λ r. ⌜ now r ≡ valueBytes (now (image .entry)) root (now (nodes .entry)) (now (pool .entry)) index ⌝ }
+{
+    let why = table_bar(image, root, nodes, pool);
+    if why != 0 {
+        return &pool[..0];
+    }
+    message::access::value_bytes(nodes, pool, index)
 }
