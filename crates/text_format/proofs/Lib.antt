@@ -1,3 +1,4 @@
 -- Laws that the entry points' proofs cite.
 pub mod Ends
 pub mod Tables
+pub mod Prints

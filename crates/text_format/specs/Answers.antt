@@ -5,6 +5,8 @@ use mathlib.Core.Option.{Option, none, some}
 use Rattle.definitions.specs.Refusals.{Answer, given, denied, badTable}
 use Rattle.definitions.specs.Validity.{valid}
 use Rattle.definitions.specs.Calls.{barred}
+use Rattle.text_format.specs.declared.Printed.{Printed}
+use Rattle.text_format.specs.declared.Printed.the-variants as printed
 use Rattle.text_format.specs.declared.Checked.{Checked}
 use Rattle.text_format.specs.declared.Checked.the-variants as checked
 use Rattle.text_format.specs.declared.Valued.{Valued}
@@ -17,6 +19,10 @@ barNumber (some why) = why
 
 unfoldable pub tableBarred : (image : List ℕ) (root : ℕ) (w pool : List ℕ) → Option ℕ
 tableBarred image root w pool = barred image root (λ _. valid image root w pool) badTable
+
+abbrev pub printedOf : Answer ℕ → Printed
+printedOf (given n) = printed.Length n
+printedOf (denied why at) = printed.No why at
 
 abbrev pub checkedOf : Answer (Unit {0}) → Checked
 checkedOf (given u) = checked.Complete

@@ -6,10 +6,12 @@ use parse::Read;
 ghost use mathlib.Core.Path.{_≡_};
 ghost use lib.ListN.{length};
 ghost use Rattle.definitions.specs.Reading.{readAnswer, readNodes, readPool};
+ghost use Rattle.definitions.specs.Print.{compact, pretty, printAnswer, printBuffer};
 ghost use Rattle.definitions.specs.Required.{requiredAnswer};
 ghost use Rattle.definitions.specs.Access.{valueAnswer, valueBytes};
 ghost use Rattle.parse.specs.Whole.{readOf};
-ghost use Rattle.text_format.specs.Answers.{barNumber, tableBarred, checkedOf, valuedOf};
+ghost use Rattle.print.specs.Printed.{styleOf};
+ghost use Rattle.text_format.specs.Answers.{barNumber, tableBarred, printedOf, checkedOf, valuedOf};
 
 // Reads a text into a node table and a pool.
 //
@@ -34,6 +36,12 @@ pub fn read(image: &[u8], root: usize, text: &[u8], nodes: &mut [u32], pool: &mu
     }
     let layout = schema::layout_of(image);
     parse::read_text(image, layout, root, text, nodes, pool)
+}
+
+// What a print gives: the length of the text, or a refusal's number and place.
+pub enum Printed {
+    Length(usize),
+    No(u8, Place),
 }
 
 // What the required check gives: no required field is missing, or a refusal's number and place.
@@ -63,6 +71,57 @@ fn table_bar(image: &[u8], root: usize, nodes: &[u32], pool: &[u8]) -> u8
         return 15;
     }
     0
+}
+
+// Both prints. The first pass counts, over an empty part of the buffer; the second stores.
+fn print_styled(
+    pretty: bool,
+    image: &[u8],
+    root: usize,
+    nodes: &[u32],
+    pool: &[u8],
+    buffer: &mut [u8],
+) -> Printed
+    ensures answer { λ r. ⌜ r ≡ printedOf (printAnswer (now (image .entry)) (styleOf pretty) root (now (nodes .entry)) (now (pool .entry)) (length (now (buffer .entry)))) ⌝ }
+    ensures bytes { λ _. ⌜ now (buffer .exit) ≡ printBuffer (now (image .entry)) (styleOf pretty) root (now (nodes .entry)) (now (pool .entry)) (now (buffer .entry)) ⌝ }
+{
+    let why = table_bar(image, root, nodes, pool);
+    if why != 0 {
+        return Printed::No(why, Place { offset: 0 });
+    }
+    let layout = schema::layout_of(image);
+    let n = print::text::print_text(image, layout, pretty, root, nodes, pool, &mut buffer[..0]);
+    if buffer.len() < n {
+        return Printed::No(16, Place { offset: n });
+    }
+    print::text::print_text(image, layout, pretty, root, nodes, pool, buffer);
+    Printed::Length(n)
+}
+
+// Prints a table and its pool on one line.
+//
+// On success the answer is Length(n): the first n bytes of `buffer` hold the text, and the rest is as it was. A refusal leaves the
+// buffer as it was. In order: 1 the image is no schema; 2 it has no such message; 15 the table is not valid for schema, root and pool;
+// 16 the text is longer than the buffer (the place is the length needed).
+pub fn print(image: &[u8], root: usize, nodes: &[u32], pool: &[u8], buffer: &mut [u8]) -> Printed
+    ensures answer { λ r. ⌜ r ≡ printedOf (printAnswer (now (image .entry)) compact root (now (nodes .entry)) (now (pool .entry)) (length (now (buffer .entry)))) ⌝ }
+    ensures bytes { λ _. ⌜ now (buffer .exit) ≡ printBuffer (now (image .entry)) compact root (now (nodes .entry)) (now (pool .entry)) (now (buffer .entry)) ⌝ }
+{
+    print_styled(false, image, root, nodes, pool, buffer)
+}
+
+// Prints a table and its pool with a field to a line, indented by two spaces a level; else as `print`.
+pub fn print_pretty(
+    image: &[u8],
+    root: usize,
+    nodes: &[u32],
+    pool: &[u8],
+    buffer: &mut [u8],
+) -> Printed
+    ensures answer { λ r. ⌜ r ≡ printedOf (printAnswer (now (image .entry)) pretty root (now (nodes .entry)) (now (pool .entry)) (length (now (buffer .entry)))) ⌝ }
+    ensures bytes { λ _. ⌜ now (buffer .exit) ≡ printBuffer (now (image .entry)) pretty root (now (nodes .entry)) (now (pool .entry)) (now (buffer .entry)) ⌝ }
+{
+    print_styled(true, image, root, nodes, pool, buffer)
 }
 
 // Whether each live message of a table, the root included, has its required fields.

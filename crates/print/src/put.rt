@@ -1,0 +1,26 @@
+// Bytes that are put into the lent buffer, as far as there is room.
+ghost use mathlib.Core.List.{[], _∷_};
+ghost use Rattle.print.specs.Written.{Written, Room};
+
+pub fn put_byte(byte: u8, buffer: &mut [u8], at: usize) -> usize
+    requires { ⌜ Room at (byte ∷ []) ⌝ }
+    ensures { λ r. ⌜ Written (now (buffer .entry)) at (byte ∷ []) (now (buffer .exit)) r ⌝ }
+{
+    if at < buffer.len() {
+        buffer[at] = byte;
+    }
+    at + 1
+}
+
+pub fn put_slice(text: &[u8], buffer: &mut [u8], at: usize) -> usize
+    requires { ⌜ Room at (now text) ⌝ }
+    ensures { λ r. ⌜ Written (now (buffer .entry)) at (now (text .entry)) (now (buffer .exit)) r ⌝ }
+{
+    let mut after = at;
+    let mut i = 0;
+    while i < text.len() {
+        after = put_byte(text[i], buffer, after);
+        i += 1;
+    }
+    after
+}

@@ -1,0 +1,37 @@
+-- `replay::with_pool` is safe and ends: the room has the length that its maker says. Assumes nothing.
+use borrow.Author.Needs.{needs}
+use Rattle.replay.proofs.with_pool.Statement.{statement}
+use Rattle.replay.proofs.with_pool.Tie as tie
+
+pool-requires : tie.Need-pool-requires
+pool-requires c κs = search needs
+
+slice-aggregate-with-line : tie.Need-slice-aggregate-with-line
+slice-aggregate-with-line c = c .before .before .before .before .pool .ensures
+
+with-line-requires : tie.Need-with-line-requires
+with-line-requires c κs = search needs
+
+same-length : tie.Need-same-length
+same-length c = search needs
+
+same-length-2 : tie.Need-same-length-2
+same-length-2 c = search needs
+
+same-length-3 : tie.Need-same-length-3
+same-length-3 c = search needs
+
+returns : tie.Need-returns
+returns c = search needs
+
+pub with-pool-spec : {M : Type 1} → statement M
+with-pool-spec =
+    tie.close
+    (tie.spec
+    pool-requires
+    slice-aggregate-with-line
+    with-line-requires
+    same-length
+    same-length-2
+    same-length-3
+    returns)
