@@ -21,11 +21,12 @@ NODE = [
     ('nums', 10, REPEATED, 0, U32, 0),
 ]
 COLOR = [('RED', 0), ('GREEN', 1), ('BLUE', 2), ('VIOLET', 3)]
+BENCH = Image([NODE], [COLOR]).bytes()
 
 
-def main():
-    image = Image([NODE], [COLOR]).bytes()
-    sys.stdout.buffer.write(len(image).to_bytes(3, 'big') + image + sys.stdin.buffer.read())
+def joined(image, text):
+    return len(image).to_bytes(3, 'big') + image + text
 
 
-main()
+if __name__ == '__main__':
+    sys.stdout.buffer.write(joined(BENCH, sys.stdin.buffer.read()))

@@ -91,6 +91,10 @@ fn inputs(rule: Rule) -> Vec<Input> {
     }
 }
 
+pub fn texts(rule: Rule) -> Vec<Vec<u8>> {
+    inputs(rule).into_iter().map(|input| input.text).collect()
+}
+
 /// True if each entry covers its inputs, no other entry does, and the page has them as they are.
 pub fn entries(judge: &mut Judge, page: Option<&str>) -> io::Result<bool> {
     let page = page.map(std::fs::read_to_string).transpose()?;

@@ -5,6 +5,7 @@ use crate::hex::{to_hex, words_to_hex};
 
 const NODE_WORDS: usize = 5;
 const MOST_NODES: usize = 65_535;
+const UNKNOWN_KINDS: std::ops::RangeInclusive<u32> = 11..=13;
 
 /// Requests, each with its answer if it has one.
 pub type Exchange = Vec<(String, Option<String>)>;
@@ -14,6 +15,12 @@ pub type Exchange = Vec<(String, Option<String>)>;
 pub struct Table {
     pub words: Vec<u32>,
     pub pool: Vec<u8>,
+}
+
+impl Table {
+    pub fn has_unknown(&self) -> bool {
+        self.words.chunks(NODE_WORDS).any(|node| UNKNOWN_KINDS.contains(&node[0]))
+    }
 }
 
 pub fn answering(requests: &[String]) -> usize {

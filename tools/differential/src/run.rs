@@ -141,13 +141,14 @@ fn report_text(judge: &mut Judge, setting: &Setting, text: &[u8]) -> io::Result<
         println!("crate           {}", show::theirs(&theirs));
         println!("translated      {}", show::text(&translated));
         println!("crate, of this  {}", show::theirs(&wanted));
-        print_exchange(setting, &exchange);
+        print!("{}", setting.lines());
+        print_exchange(&exchange);
     }
     Ok(())
 }
 
-fn print_exchange(setting: &Setting, exchange: &Exchange) {
-    print!("{}", setting.lines());
+/// Each request with its answer in a comment.
+pub fn print_exchange(exchange: &Exchange) {
     for (request, answer) in exchange {
         println!("{request}");
         if let Some(answer) = answer {
@@ -217,7 +218,8 @@ fn report_table(judge: &mut Judge, setting: &Setting, table: &Table) -> io::Resu
             ),
             None => println!("crate  can't be given this table"),
         }
-        print_exchange(setting, &printing.exchange);
+        print!("{}", setting.lines());
+        print_exchange(&printing.exchange);
     }
     Ok(())
 }
