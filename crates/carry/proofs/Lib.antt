@@ -1,0 +1,3 @@
+-- Laws that carrying's proofs cite: what a print leaves (Printing), and what follows of the two calls (Carrying).
+pub mod Printing
+pub mod Carrying
