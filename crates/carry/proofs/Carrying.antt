@@ -5,7 +5,7 @@ use mathlib.Core.Path.{_≡_, refl, sym, ap, _∙_, subst}
 use mathlib.Core.Bool.{Bool, true, false}
 use mathlib.Core.List.{List, [], _∷_, _++_}
 use lib.Dec.{ltb}
-use lib.ListN.{length, take, drop, getD}
+use lib.ListN.{length, take, drop, getD, length-append}
 use lib.Seq.{take-append-seam}
 use borrow.Author.Tests.{lt-ltb, le-ltb}
 use Rattle.definitions.specs.declared.Place.{Place}
@@ -42,13 +42,13 @@ module _ (newer older : List ℕ) (y : Style) (root : ℕ) (w pool buffer into b
     pub answer : r ≡ carryAnswer newer older y root w pool (length buffer) (length into) (length bytes)
     pub text : b ≡ printBuffer newer y root w pool buffer
     pub table : n ≡ carryNodes newer older y root w pool (length buffer) into (length bytes)
-    pub runs : m ≡ carryPool newer older y root w pool (length buffer) (length into) bytes
+    pub stored : m ≡ carryPool newer older y root w pool (length buffer) (length into) bytes
 
   -- ---- demand 3
 
   module _ (r : Carried) (b n m : List ℕ) (d : Ends r b n m)
-        (words : (i : ℕ) → getD w i 0 < 2 ^ 32) (octets : (i : ℕ) → getD pool i 0 < 2 ^ 8)
-        (g : Carriable newer older root w pool y (length buffer)) where
+      (words : (i : ℕ) → getD w i 0 < 2 ^ 32) (octets : (i : ℕ) → getD pool i 0 < 2 ^ 8)
+      (g : Carriable newer older root w pool y (length buffer)) where
     setting : Setting newer older root w pool y
     setting =
         record {
@@ -84,9 +84,9 @@ module _ (newer older : List ℕ) (y : Style) (root : ℕ) (w pool buffer into b
     unfolding carryNodes
     table-is = d .table ∙ rw granted refl
 
-    runs-are : m ≡ readPool older root (printText newer y root w pool) (length into) bytes
+    stored-is : m ≡ readPool older root (printText newer y root w pool) (length into) bytes
     unfolding carryPool
-    runs-are = d .runs ∙ rw granted refl
+    stored-is = d .stored ∙ rw granted refl
 
     text-is : b ≡ printText newer y root w pool ++ drop (length (printText newer y root w pool)) buffer
     text-is = d .text ∙ buffer-is newer y root w pool buffer (length (printText newer y root w pool)) granted
@@ -101,9 +101,9 @@ module _ (newer older : List ℕ) (y : Style) (root : ℕ) (w pool buffer into b
               let f = theorem .known e into bytes room in
               record {
                 answer = answer-is ∙ ap (λ (a : Answer reading.Made). carriedRead (readOf a)) (f .answer);
-                good = rw (table-is, runs-are) (f .good);
-                same = rw (table-is, runs-are) (f .same);
-                printed = λ z. rw (table-is, runs-are) (f .printed z);
+                good = rw (table-is, stored-is) (f .good);
+                same = rw (table-is, stored-is) (f .same);
+                printed = λ z. rw (table-is, stored-is) (f .printed z);
               };
           unknown =
               λ e.
@@ -116,19 +116,32 @@ module _ (newer older : List ℕ) (y : Style) (root : ℕ) (w pool buffer into b
                     ∙ part-front (printText newer y root w pool) _ (spelling (f .first .name)) (f .first .at) (f .stands);
                 answer = answer-is ∙ ap (λ (a : Answer reading.Made). carriedRead (readOf a)) (f .answer (length into) (length bytes));
                 nodesKept = table-is ∙ rw (f .answer (length into) (length bytes)) refl;
-                bytesKept = runs-are ∙ rw (f .answer (length into) (length bytes)) refl;
+                bytesKept = stored-is ∙ rw (f .answer (length into) (length bytes)) refl;
               };
         }
+
+  -- all that is promised of a call
+  abbrev pub Promised : Carried → (b n m : List ℕ) → Type 0
+  Promised r b n m =
+      (r ≡ carryAnswer newer older y root w pool (length buffer) (length into) (length bytes))
+      × ((b ≡ printBuffer newer y root w pool buffer)
+      × ((n ≡ carryNodes newer older y root w pool (length buffer) into (length bytes))
+      × ((m ≡ carryPool newer older y root w pool (length buffer) (length into) bytes)
+      × (Carriable newer older root w pool y (length buffer) → Carries newer older root w pool y r b into n bytes m))))
+
+  pub promised : (r : Carried) (b n m : List ℕ) → ((i : ℕ) → getD w i 0 < 2 ^ 32) → ((i : ℕ) → getD pool i 0 < 2 ^ 8) → Ends r b n m
+      → Promised r b n m
+  promised r b n m words octets d = (d .answer, (d .text, (d .table, (d .stored, carries r b n m d words octets))))
 
   -- ---- by how the print ends
 
   module _ (p : Printed) (h : p ≡ printedOf (printAnswer newer y root w pool (length buffer)))
-        (b : List ℕ) (k : b ≡ printBuffer newer y root w pool buffer) where
+      (b : List ℕ) (k : b ≡ printBuffer newer y root w pool buffer) where
     pub ends-refused : (why : ℕ) (at : Place) → p ≡ printed.No why at → Ends (carried.NotPrinted why at) b into bytes
     unfolding carryAnswer carryNodes carryPool
     ends-refused why at e =
         let a = printed-no (printAnswer newer y root w pool (length buffer)) why at (sym e ∙ h) in
-        record { answer = rw a refl; text = k; table = rw a refl; runs = rw a refl }
+        record { answer = rw a refl; text = k; table = rw a refl; stored = rw a refl }
 
     module _ (l : ℕ) (e : p ≡ printed.Length l) where
       granted-is : printAnswer newer y root w pool (length buffer) ≡ given l
@@ -138,8 +151,12 @@ module _ (newer older : List ℕ) (y : Style) (root : ℕ) (w pool buffer into b
       handed : take l b ≡ printText newer y root w pool
       handed = ap (take l) k ∙ front-is newer y root w pool buffer l granted-is
 
-      pub length-fits : l ≤ length buffer
-      length-fits = let z = print-given newer y root w pool buffer l granted-is in omega (arith, z .0, z .1)
+      pub length-fits : l ≤ length b
+      length-fits =
+          let whole : length b ≡ length (printText newer y root w pool ++ drop (length (printText newer y root w pool)) buffer) =
+          ap length (k ∙ buffer-is newer y root w pool buffer l granted-is) in
+          let seam = length-append (printText newer y root w pool) (drop (length (printText newer y root w pool)) buffer) in
+          omega (arith, whole, seam, print-given newer y root w pool buffer l granted-is .0)
 
       pub ends-read : (a : Read) (n m : List ℕ)
           → a ≡ readOf (readAnswer older root (take l b) (length into) (length bytes))
@@ -152,5 +169,5 @@ module _ (newer older : List ℕ) (y : Style) (root : ℕ) (w pool buffer into b
             answer = hr ∙ ap carriedRead ha ∙ rw (handed, granted-is) refl;
             text = k;
             table = hn ∙ rw (handed, granted-is) refl;
-            runs = hm ∙ rw (handed, granted-is) refl;
+            stored = hm ∙ rw (handed, granted-is) refl;
           }

@@ -89,7 +89,7 @@ pub record Same (newer older : List ℕ) (root : ℕ) (w pool : List ℕ) (r : C
 
 -- refused: the first live name of the text that the older schema lacks, where it stands in the buffer, 6 or 7, and no word or byte changed
 pub record Lacks
-      (newer older : List ℕ) (root : ℕ) (w pool : List ℕ) (y : Style) (r : Carried) (buffer before nodes held bytes : List ℕ) : Type 0 where
+    (newer older : List ℕ) (root : ℕ) (w pool : List ℕ) (y : Style) (r : Carried) (buffer before nodes held bytes : List ℕ) : Type 0 where
   pub first : Spelled
   pub lacks : lacking older (spelled newer y 0 true (inMessage root) (meaning newer root w pool) 0) ≡ some first
   pub stands : part buffer (first .at) (first .at + length (spelling (first .name))) ≡ spelling (first .name)
@@ -99,7 +99,7 @@ pub record Lacks
 
 -- the answer r, the buffer afterwards, and the nodes and bytes lent: `before` and `held` at first, `nodes` and `bytes` afterwards
 pub record Carries
-      (newer older : List ℕ) (root : ℕ) (w pool : List ℕ) (y : Style) (r : Carried) (buffer before nodes held bytes : List ℕ) : Type 0 where
+    (newer older : List ℕ) (root : ℕ) (w pool : List ℕ) (y : Style) (r : Carried) (buffer before nodes held bytes : List ℕ) : Type 0 where
   pub text : take (length (printText newer y root w pool)) buffer ≡ printText newer y root w pool
   pub known :
       knowsAll older (names newer (inMessage root) (meaning newer root w pool)) ≡ true

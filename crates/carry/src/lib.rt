@@ -68,9 +68,9 @@ pub fn carry(
     bytes: &mut [u8],
 ) -> Carried
     ensures answer { λ r. ⌜ r ≡ carryAnswer (now (newer .entry)) (now (older .entry)) (styleOf pretty) root (now (nodes .entry)) (now (pool .entry)) (length (now (buffer .entry))) (length (now (into .entry))) (length (now (bytes .entry))) ⌝ }
-    ensures text { λ _. ⌜ now (buffer .exit) ≡ printBuffer (now (newer .entry)) (styleOf pretty) root (now (nodes .entry)) (now (pool .entry)) (now (buffer .entry)) ⌝ }
-    ensures table { λ _. ⌜ now (into .exit) ≡ carryNodes (now (newer .entry)) (now (older .entry)) (styleOf pretty) root (now (nodes .entry)) (now (pool .entry)) (length (now (buffer .entry))) (now (into .entry)) (length (now (bytes .entry))) ⌝ }
-    ensures runs { λ _. ⌜ now (bytes .exit) ≡ carryPool (now (newer .entry)) (now (older .entry)) (styleOf pretty) root (now (nodes .entry)) (now (pool .entry)) (length (now (buffer .entry))) (length (now (into .entry))) (now (bytes .entry)) ⌝ }
+    ensures buffer { λ _. ⌜ now (buffer .exit) ≡ printBuffer (now (newer .entry)) (styleOf pretty) root (now (nodes .entry)) (now (pool .entry)) (now (buffer .entry)) ⌝ }
+    ensures into { λ _. ⌜ now (into .exit) ≡ carryNodes (now (newer .entry)) (now (older .entry)) (styleOf pretty) root (now (nodes .entry)) (now (pool .entry)) (length (now (buffer .entry))) (now (into .entry)) (length (now (bytes .entry))) ⌝ }
+    ensures bytes { λ _. ⌜ now (bytes .exit) ≡ carryPool (now (newer .entry)) (now (older .entry)) (styleOf pretty) root (now (nodes .entry)) (now (pool .entry)) (length (now (buffer .entry))) (length (now (into .entry))) (now (bytes .entry)) ⌝ }
     ensures demand { λ r. ⌜ (Carriable (now (newer .entry)) (now (older .entry)) root (now (nodes .entry)) (now (pool .entry)) (styleOf pretty) (length (now (buffer .entry))) → Carries (now (newer .entry)) (now (older .entry)) root (now (nodes .entry)) (now (pool .entry)) (styleOf pretty) r (now (buffer .exit)) (now (into .entry)) (now (into .exit)) (now (bytes .entry)) (now (bytes .exit))) ⌝ }
 {
     let printed = print_as(pretty, newer, root, nodes, pool, buffer);
