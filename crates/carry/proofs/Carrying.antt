@@ -1,8 +1,8 @@
 -- Carrying by how its print ends, and demand 3 of what it leaves.
 use Prim.Native.Nat.{ℕ, suc, _+_, _≤_, _<_, _^_}
 use native.Mathlib.Omega.{arith}
-use mathlib.Core.Path.{_≡_, refl, sym, ap, _∙_, subst}
-use mathlib.Core.Bool.{Bool, true, false}
+use mathlib.Core.Path.{_≡_, refl, sym, ap, _∙_}
+use mathlib.Core.Bool.{true}
 use mathlib.Core.List.{List, [], _∷_, _++_}
 use lib.Dec.{ltb}
 use lib.ListN.{length, take, drop, getD, length-append}
@@ -10,7 +10,7 @@ use lib.Seq.{take-append-seam}
 use borrow.Author.Tests.{lt-ltb, le-ltb}
 use Rattle.definitions.specs.declared.Place.{Place}
 use Rattle.definitions.specs.Basics.{each, part}
-use Rattle.definitions.specs.Refusals.{Answer, given, denied}
+use Rattle.definitions.specs.Refusals.{Answer, given}
 use Rattle.definitions.specs.Image.{isMessage, messageCount}
 use Rattle.definitions.specs.Nodes.{word32}
 use Rattle.definitions.specs.Calls.{barred}

@@ -1,20 +1,19 @@
 -- What a print leaves: where it is granted, its text is the buffer's front; and the bytes of the text stand in the buffer where they
 -- stand in the text.
-use Prim.Native.Nat.{ℕ, _+_, _-_, _≤_, _<_, min}
+use Prim.Native.Nat.{ℕ, _+_, _-_, _≤_}
 use native.Mathlib.Omega.{arith}
-use mathlib.Core.Path.{_≡_, refl, sym, ap, _∙_}
+use mathlib.Core.Path.{_≡_, refl, ap, _∙_}
 use mathlib.Core.Bool.{Bool, true, false}
-use mathlib.Core.List.{List, [], _∷_, _++_}
+use mathlib.Core.List.{List, _++_}
 use mathlib.Core.Option.{Option, none, some}
 use lib.Dec.{ltb, leb}
 use lib.ListN.{length, take, drop, length-take, length-drop}
-use lib.Seq.{sets, sets-eq, take-at, take-append-le, drop-append-le}
+use lib.Seq.{sets-eq, take-at, take-append-le, drop-append-le}
 use borrow.Author.Tests.{ltb-false, leb-true, leb-false}
 use Rattle.definitions.specs.Basics.{part}
-use Rattle.definitions.specs.Refusals.{Answer, given, denied}
 use Rattle.definitions.specs.declared.Place.{Place}
+use Rattle.definitions.specs.Refusals.{Answer, given, denied, badTable}
 use Rattle.definitions.specs.Validity.{valid}
-use Rattle.definitions.specs.Refusals.{badTable}
 use Rattle.definitions.specs.Calls.{barred, unbarred}
 use Rattle.definitions.specs.Print.{Style, printText, printFitted, printAnswer, printBuffer}
 use Rattle.print.specs.Printed.{styleOf}

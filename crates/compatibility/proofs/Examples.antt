@@ -1,10 +1,13 @@
 -- The demand, computed: texts that an older schema reads and texts that it refuses; and what goes wrong without each thing presumed.
-use mathlib.Core.Path.{_≡_, refl}
+use mathlib.Core.Path.{_≡_, refl, ap}
 use Prim.Native.Nat.{ℕ}
 use mathlib.Core.Bool.{Bool, true, false}
 use mathlib.Core.List.{List, [], _∷_, _++_, map}
+use mathlib.Core.Option.{Option, none, some}
+use lib.ListN.{length}
 use Rattle.definitions.specs.Basics.{bytes, same, each, all, any, find}
 use Rattle.definitions.specs.Bits.{bit, bits}
+use Rattle.definitions.specs.Refusals.{denied, place, textTooLong}
 use Rattle.definitions.specs.Image.{form, messageCount, fieldCount, enumCount, valueCount, nameCount, messagesAt, fieldsAt, enumsAt, valuesAt, namesAt, imageLength, message, enumeration, fieldAt, field, memberAt, member, identifier, nameText, fieldName, memberName, nameGood, total, running, typeGood, fieldGood, memberGood, distinct, fieldsAgree, membersAgree, headerGood, recordsGood, accepted, isMessage, findField, findMember, findNumber}
 use Rattle.definitions.specs.Extending.{sameField, embedded, messageExtends, sameMember, enumExtends, extends}
 use Rattle.definitions.specs.Scope.{want, within, hasField, nameIn, findIn}
@@ -57,7 +60,7 @@ demandsExpected =
     ∷ presumed false (bytes "limits {\n  key: \"a\"\n  value {\n    hue: OFF\n  }\n}\n") (refuses 6 34)
     ∷ []
 
--- ---- without what is presumed: one thing fails, in the order of `Setting`, but for the length of the text
+-- ---- without what is presumed: one thing fails, in the order of `Setting`; the length of the text comes below
 
 abbrev breaks : List Trip
 breaks =
@@ -102,7 +105,14 @@ breaksExpected =
     ∷ unless 7 1 (bytes "mode: : 7") (refuses 5 6)
     ∷ []
 
-computed : (map result demands ≡ demandsExpected) × (map result breaks ≡ breaksExpected)
+-- a text one byte over the limit, and one at it
+abbrev limits : List (Option ℕ)
+limits = read.readBarred older 0 1048577 ∷ read.readBarred older 0 1048576 ∷ []
+
+abbrev limitsExpected : List (Option ℕ)
+limitsExpected = some textTooLong ∷ none ∷ []
+
+computed : (map result demands ≡ demandsExpected) × (map result breaks ≡ breaksExpected) × (limits ≡ limitsExpected)
 unfolding same each all any find bit bits
     form messageCount fieldCount enumCount valueCount nameCount messagesAt fieldsAt enumsAt valuesAt namesAt imageLength
     message enumeration fieldAt field memberAt member identifier nameText fieldName memberName nameGood total running typeGood
@@ -120,7 +130,7 @@ unfolding same each all any find bit bits
     read.item read.fields read.under read.readBody read.whole read.readBarred read.readAnswer
     print.digits print.decimal print.signedDecimal print.quoteByte print.quoteBytes print.quoted print.numberText print.label
     print.indent print.lead print.trail print.opening print.closing print.render print.printText
-computed = (refl, refl)
+computed = (refl, refl, refl)
 
 -- both cases of the demand
 pub examples : map result demands ≡ demandsExpected
@@ -129,3 +139,18 @@ examples = computed .0
 -- each thing that is presumed is needed
 pub needed : map result breaks ≡ breaksExpected
 needed = computed .1
+
+pub limited : limits ≡ limitsExpected
+limited = computed .2
+
+-- and so is the limit of the text: one byte more, and any text is refused 3
+pub too-long : (text : List ℕ) → length text ≡ 1048577 → (count size : ℕ) → read.readAnswer older 0 text count size ≡ denied textTooLong (place 0)
+unfolding read.readAnswer
+too-long text h count size = rw (h, barred-over) refl
+  where
+    head : List (Option ℕ) → Option ℕ
+    head [] = none
+    head (x ∷ xs) = x
+
+    barred-over : read.readBarred older 0 1048577 ≡ some textTooLong
+    barred-over = ap head limited

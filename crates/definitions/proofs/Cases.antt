@@ -1,10 +1,13 @@
--- What the lists of examples are written in: two schemas, and a reading or a call with its outcome.
-use Prim.Native.Nat.{ℕ, zero, suc, _*_}
+-- What the lists of examples are written in: schemas, and a reading, a call or an extension with its outcome.
+use Prim.Native.Nat.{ℕ, zero, suc, _+_, _*_, _/_, _%_}
+use mathlib.Core.Bool.{Bool}
 use mathlib.Core.List.{List, [], _∷_, _++_}
 use mathlib.Core.Option.{Option, none, some}
 use lib.ListN.{length}
 use Rattle.definitions.specs.Basics.{bytes}
 use Rattle.definitions.specs.Refusals.{Answer, given, denied}
+use Rattle.definitions.specs.Image.{accepted}
+use Rattle.definitions.specs.Extending.{extends}
 use Rattle.definitions.specs.Reading.{Made, whole, wordsOf, bytesOf, readAnswer}
 use Rattle.definitions.specs.Print.{Style, compact, pretty, printText}
 
@@ -40,6 +43,26 @@ schemaNamed letter =
 
 abbrev pub schemaX : List ℕ
 schemaX = schemaNamed 113
+
+-- ---- small schemas, each name one letter of `abcd`
+
+abbrev pub fieldOf : (start number label key type reference : ℕ) → List ℕ
+fieldOf start number label key type reference =
+    0 ∷ start ∷ 4 ∷ 0 ∷ 0 ∷ 0 ∷ (32 * number + 8 * label + key / 2) ∷ (128 * (key % 2) + 8 * type) ∷ 8 * reference ∷ []
+
+abbrev pub memberOf : (start number : ℕ) → List ℕ
+memberOf start number = 0 ∷ start ∷ 4 ∷ 0 ∷ 0 ∷ 0 ∷ 4 * number ∷ []
+
+-- message 0 with so many fields, message 1 with none, and enum 0 with so many values
+abbrev pub schemaOf : ℕ → List ℕ → ℕ → List ℕ → List ℕ
+schemaOf f fields v members =
+    16 ∷ 32 ∷ f ∷ 1 ∷ 0 ∷ 16 * v ∷ 0 ∷ 64 ∷  -- header
+    0 ∷ 0 ∷ f ∷ 0 ∷ 16 * f ∷ 0 ∷  -- messages
+    (fields ++ (0 ∷ 0 ∷ v ∷ (members ++ bytes "abcd")))
+
+-- an older schema is accepted, and the newer one extends it
+abbrev pub judged : (newer older : List ℕ) → List Bool
+judged newer older = accepted older ∷ extends newer older ∷ []
 
 -- n copies of a text, and what comes after them
 abbrev pub times : ℕ → List ℕ → List ℕ → List ℕ

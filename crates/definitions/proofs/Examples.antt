@@ -1,11 +1,14 @@
 -- The examples, by computing: (a) to (j) of document 01, one statement over a list; each refusal 1 to 18 beside its nearest
--- neighbour that is granted, one statement over a list; and prints of tables that no text makes, one statement over a list.
+-- neighbour that is granted, one statement over a list; prints of tables that no text makes, one statement over a list; and what a
+-- schema extends and what not, one statement over a list.
 use mathlib.Core.Path.{_≡_, refl}
 use Prim.Native.Nat.{ℕ}
+use mathlib.Core.Bool.{Bool, true, false}
 use mathlib.Core.List.{List, [], _∷_, _++_, map}
-use Rattle.definitions.specs.Basics.{bytes, same, each, all, find}
+use Rattle.definitions.specs.Basics.{bytes, same, each, all, any, find}
 use Rattle.definitions.specs.Bits.{bit, bits}
 use Rattle.definitions.specs.Image.{form, messageCount, fieldCount, enumCount, valueCount, nameCount, messagesAt, fieldsAt, enumsAt, valuesAt, namesAt, imageLength, message, enumeration, fieldAt, field, memberAt, member, identifier, nameText, fieldName, memberName, nameGood, total, running, typeGood, fieldGood, memberGood, distinct, fieldsAgree, membersAgree, headerGood, recordsGood, accepted, isMessage, findField, findMember, findNumber}
+use Rattle.definitions.specs.Extending.{sameField, embedded, messageExtends, sameMember, enumExtends, extends}
 use Rattle.definitions.specs.Scope.{want, within, hasField, nameIn, findIn}
 use Rattle.definitions.specs.Utf8.{lead, step, steps, utf8}
 use Rattle.definitions.specs.Nodes.{nodeAt, tableEnd, numberOf, widen, runOf, grow, forest, tileF, tiles, depth}
@@ -23,7 +26,7 @@ use Rattle.definitions.specs.Print as print
 use Rattle.definitions.specs.Print.{compact, printText, printAnswer}
 use Rattle.definitions.specs.Required.{filled, filledIn, filledBelow, complete, requiredAnswer}
 use Rattle.definitions.specs.Access.{isValue, valueAnswer}
-use Rattle.definitions.proofs.Cases.{Case, Outcome, reads, refuses, outcome, schemaE, schemaX, schemaNamed, times, Refusal, by, granted, refusal, reading, ofLength}
+use Rattle.definitions.proofs.Cases.{Case, Outcome, reads, refuses, outcome, schemaE, schemaX, schemaNamed, fieldOf, memberOf, schemaOf, judged, times, Refusal, by, granted, refusal, reading, ofLength}
 
 -- the value of `id` retyped, (c) and (d)
 abbrev of : ℕ → List ℕ → Case
@@ -207,11 +210,71 @@ printsExpected =
     ∷ bytes "e: NEG"
     ∷ []
 
-computed : (map outcome cases ≡ expected) × (refusals ≡ refusalsExpected) × (prints ≡ printsExpected)
-unfolding same each all find bit bits
+-- ---- extending
+
+-- `a` u32 1, `b` message 1 2, `c` map of i32 to u32 3
+abbrev fieldA : List ℕ
+fieldA = fieldOf 0 1 0 0 3 0
+
+abbrev fieldB : List ℕ
+fieldB = fieldOf 1 2 0 0 9 1
+
+abbrev fieldC : List ℕ
+fieldC = fieldOf 2 3 3 1 3 0
+
+abbrev members : List ℕ
+members = memberOf 0 1 ++ memberOf 1 2
+
+abbrev newer : List ℕ
+newer = schemaOf 3 (fieldA ++ (fieldB ++ fieldC)) 2 members
+
+abbrev olders : List (List ℕ)
+olders =
+    newer
+    ∷ schemaOf 2 (fieldA ++ fieldC) 1 (memberOf 1 2)
+    ∷ schemaOf 0 [] 2 (memberOf 1 2 ++ memberOf 0 1)
+    ∷ schemaOf 2 (fieldB ++ fieldA) 2 members
+    ∷ schemaOf 1 (fieldOf 3 1 0 0 3 0) 2 members
+    ∷ schemaOf 1 (fieldOf 0 4 0 0 3 0) 2 members
+    ∷ schemaOf 1 (fieldOf 0 1 2 0 3 0) 2 members
+    ∷ schemaOf 1 (fieldOf 2 3 3 2 3 0) 2 members
+    ∷ schemaOf 1 (fieldOf 0 1 0 0 4 0) 2 members
+    ∷ schemaOf 1 (fieldOf 1 2 0 0 9 0) 2 members
+    ∷ schemaOf 0 [] 1 (memberOf 2 2)
+    ∷ schemaOf 0 [] 1 (memberOf 1 3)
+    ∷ schemaE 1
+    ∷ []
+
+-- accepted, and extended or not
+abbrev yes : List Bool
+yes = true ∷ true ∷ []
+
+abbrev no : List Bool
+no = true ∷ false ∷ []
+
+abbrev extensionsExpected : List (List Bool)
+extensionsExpected =
+    yes  -- itself
+    ∷ yes  -- a field and a value less
+    ∷ yes  -- values in another order
+    ∷ no  -- fields in another order
+    ∷ no  -- another name
+    ∷ no  -- number
+    ∷ no  -- label
+    ∷ no  -- key type
+    ∷ no  -- type
+    ∷ no  -- reference
+    ∷ no  -- another value's name
+    ∷ no  -- number
+    ∷ no  -- fields that the newer does not have
+    ∷ []
+
+computed : (map outcome cases ≡ expected) × (refusals ≡ refusalsExpected) × (prints ≡ printsExpected) × (map (judged newer) olders ≡ extensionsExpected)
+unfolding same each all any find bit bits
     form messageCount fieldCount enumCount valueCount nameCount messagesAt fieldsAt enumsAt valuesAt namesAt imageLength
     message enumeration fieldAt field memberAt member identifier nameText fieldName memberName nameGood total running typeGood
     fieldGood memberGood distinct fieldsAgree membersAgree headerGood recordsGood accepted isMessage findField findMember findNumber
+    sameField embedded messageExtends sameMember enumExtends extends
     want within hasField nameIn findIn lead step steps utf8 nodeAt tableEnd numberOf widen runOf grow forest tileF tiles depth inRange runGood valueGood isNil unknownGood fieldFits isPair forestGood rootGood below valid
     rankOf valueOf treeOf sameVal has keyOf hasKey sharing replaced insert canon meaning classes class
     integers.front integers.digitValue integers.hexAhead integers.integerLength integers.runsOn integers.worth integers.integerValue
@@ -223,7 +286,7 @@ unfolding same each all find bit bits
     read.item read.fields read.under read.readBody read.whole read.readBarred read.readAnswer
     print.digits print.decimal print.signedDecimal print.quoteByte print.quoteBytes print.quoted print.numberText print.label
     print.indent print.lead print.trail print.opening print.closing print.render print.printText print.printAnswer filled filledIn filledBelow complete requiredAnswer isValue valueAnswer
-computed = (refl, refl, refl)
+computed = (refl, refl, refl, refl)
 
 pub examples : map outcome cases ≡ expected
 examples = computed .0
@@ -233,3 +296,6 @@ refused = computed .1
 
 pub printed : prints ≡ printsExpected
 printed = computed .2
+
+pub extended : map (judged newer) olders ≡ extensionsExpected
+extended = computed .3

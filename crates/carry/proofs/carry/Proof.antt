@@ -1,7 +1,6 @@
 -- `carry::carry` meets its contract: the print is refused, or its text is read.
 use denote.Ref.{now}
-use mathlib.Core.Path.{_≡_, refl, sym, _∙_}
-use native.Mathlib.Omega.{arith}
+use mathlib.Core.Path.{sym}
 use lib.Seq.{length-take-le}
 use Rattle.print.specs.Printed.{styleOf}
 use Rattle.carry.proofs.Carrying.{promised, ends-refused, ends-read, length-fits}
