@@ -10,12 +10,11 @@ use lib.Seq.{take-append-seam}
 use borrow.Author.Tests.{lt-ltb, le-ltb}
 use Rattle.definitions.specs.declared.Place.{Place}
 use Rattle.definitions.specs.Basics.{each, part}
-use Rattle.definitions.specs.Refusals.{Answer, given}
+use Rattle.definitions.specs.Refusals.{Answer, given, denied}
 use Rattle.definitions.specs.Image.{isMessage, messageCount}
 use Rattle.definitions.specs.Nodes.{word32}
 use Rattle.definitions.specs.Calls.{barred}
-use Rattle.definitions.specs.Reading as reading
-use Rattle.definitions.specs.Reading.{readAnswer, readNodes, readPool}
+use Rattle.definitions.specs.Reading.{Made, readAnswer, readNodes, readPool}
 use Rattle.definitions.specs.Print.{Style, printText, printAnswer, printBuffer}
 use Rattle.parse.specs.declared.Read.{Read}
 use Rattle.parse.specs.Whole.{readOf}
@@ -27,7 +26,8 @@ use Rattle.compatibility.proofs.Demand.{here, ext, demand}
 use Rattle.laws.proofs.Lists.{and-made}
 use Rattle.carry.specs.declared.Carried.{Carried}
 use Rattle.carry.specs.declared.Carried.the-variants as carried
-use Rattle.carry.specs.Carry.{carriedRead, carryAnswer, carryNodes, carryPool, Carriable, Carries}
+use Rattle.carry.specs.Answers.{carriedRead}
+use Rattle.carry.specs.Carry.{readAs, carryAnswer, carryNodes, carryPool, Carriable, Carries}
 use Rattle.carry.proofs.Printing.{printed-no, printed-length, print-given, buffer-is, front-is, part-front}
 
 -- what holds of each element by its index holds of each
@@ -35,6 +35,11 @@ pub each-below : (m : ℕ) (l : List ℕ) → ((i : ℕ) → getD l i 0 < m) →
 unfolding each
 each-below m [] h = refl
 each-below m (x ∷ xs) h = and-made (ltb x m) (each (λ x. ltb x m) xs) (lt-ltb x m (h 0)) (each-below m xs (λ i. h (suc i)))
+
+-- code's answer of a read becomes that of the definition
+read-as : (a : Answer Made) → carriedRead (readOf a) ≡ readAs a
+read-as (given m) = refl
+read-as (denied why at) = refl
 
 module _ (newer older : List ℕ) (y : Style) (root : ℕ) (w pool buffer into bytes : List ℕ) where
   -- the answer, the buffer, the nodes and the bytes after a call
@@ -76,7 +81,7 @@ module _ (newer older : List ℕ) (y : Style) (root : ℕ) (w pool buffer into b
     unfolding printAnswer barred
     granted = simp (g .newerGood, newer-root, g .tableGood, le-ltb (length buffer) (length (printText newer y root w pool)) (g .fits))
 
-    answer-is : r ≡ carriedRead (readOf (readAnswer older root (printText newer y root w pool) (length into) (length bytes)))
+    answer-is : r ≡ readAs (readAnswer older root (printText newer y root w pool) (length into) (length bytes))
     unfolding carryAnswer
     answer-is = d .answer ∙ rw granted refl
 
@@ -100,7 +105,7 @@ module _ (newer older : List ℕ) (y : Style) (root : ℕ) (w pool buffer into b
               λ e room.
               let f = theorem .known e into bytes room in
               record {
-                answer = answer-is ∙ ap (λ (a : Answer reading.Made). carriedRead (readOf a)) (f .answer);
+                answer = answer-is ∙ ap readAs (f .answer);
                 good = rw (table-is, stored-is) (f .good);
                 same = rw (table-is, stored-is) (f .same);
                 printed = λ z. rw (table-is, stored-is) (f .printed z);
@@ -114,7 +119,7 @@ module _ (newer older : List ℕ) (y : Style) (root : ℕ) (w pool buffer into b
                 stands =
                     ap (λ (l : List ℕ). part l (f .first .at) (f .first .at + length (spelling (f .first .name)))) text-is
                     ∙ part-front (printText newer y root w pool) _ (spelling (f .first .name)) (f .first .at) (f .stands);
-                answer = answer-is ∙ ap (λ (a : Answer reading.Made). carriedRead (readOf a)) (f .answer (length into) (length bytes));
+                answer = answer-is ∙ ap readAs (f .answer (length into) (length bytes));
                 nodesKept = table-is ∙ rw (f .answer (length into) (length bytes)) refl;
                 bytesKept = stored-is ∙ rw (f .answer (length into) (length bytes)) refl;
               };
@@ -166,7 +171,7 @@ module _ (newer older : List ℕ) (y : Style) (root : ℕ) (w pool buffer into b
       unfolding carryAnswer carryNodes carryPool
       ends-read a n m ha hn hm r hr =
           record {
-            answer = hr ∙ ap carriedRead ha ∙ rw (handed, granted-is) refl;
+            answer = hr ∙ ap carriedRead ha ∙ read-as (readAnswer older root (take l b) (length into) (length bytes)) ∙ rw (handed, granted-is) refl;
             text = k;
             table = hn ∙ rw (handed, granted-is) refl;
             stored = hm ∙ rw (handed, granted-is) refl;

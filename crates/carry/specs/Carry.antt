@@ -24,12 +24,8 @@ use Rattle.definitions.specs.Scope.{inMessage}
 use Rattle.definitions.specs.Validity.{valid}
 use Rattle.definitions.specs.Live.{meaning}
 use Rattle.definitions.specs.Names.{names}
-use Rattle.definitions.specs.Reading as reading
-use Rattle.definitions.specs.Reading.{readAnswer, readNodes, readPool}
+use Rattle.definitions.specs.Reading.{Made, readAnswer, readNodes, readPool}
 use Rattle.definitions.specs.Print.{Style, printText, printAnswer}
-use Rattle.parse.specs.declared.Read.{Read}
-use Rattle.parse.specs.declared.Read.the-variants as read
-use Rattle.parse.specs.Whole.{readOf}
 use Rattle.compatibility.specs.Laying.{size, laidBytes}
 use Rattle.compatibility.specs.Demand.{byName, Spelled, spelling, spelled, lacking, knowsAll, refusalOf, allNamed, Room}
 use Rattle.carry.specs.declared.Carried.{Carried}
@@ -37,20 +33,19 @@ use Rattle.carry.specs.declared.Carried.the-variants as carried
 
 -- ---- the answer and the rooms, for any arguments
 
--- document 01's numbers and values for each case of the answer
-abbrev pub carriedRead : Read → Carried
-carriedRead (read.Made n b) = carried.Made n b
-carriedRead (read.No why at) = carried.NotRead why at
+-- document 01's numbers and values for each case of the answer: the read comes after a print that is granted
+abbrev pub readAs : Answer Made → Carried
+readAs (given m) = carried.Made (m .nodes) (m .bytes)
+readAs (denied why at) = carried.NotRead why at
 
--- the read comes after a print that is granted
-abbrev pub carriedOf : Answer ℕ → (Unit {0} → Answer reading.Made) → Carried
+abbrev pub carriedOf : Answer ℕ → (Unit {0} → Answer Made) → Carried
+carriedOf (given n) next = readAs (next tt)
 carriedOf (denied why at) next = carried.NotPrinted why at
-carriedOf (given n) next = carriedRead (readOf (next tt))
 
 -- what a room that is lent to the read holds afterwards
 abbrev pub after : Answer ℕ → List ℕ → (Unit {0} → List ℕ) → List ℕ
-after (denied why at) lent next = lent
 after (given n) lent next = next tt
+after (denied why at) lent next = lent
 
 unfoldable pub carryAnswer : (newer older : List ℕ) (y : Style) (root : ℕ) (w pool : List ℕ) (room count size : ℕ) → Carried
 carryAnswer newer older y root w pool room count size =

@@ -8,7 +8,8 @@ ghost use lib.ListN.{length};
 ghost use Rattle.definitions.specs.Print.{printAnswer, printBuffer};
 ghost use Rattle.print.specs.Printed.{styleOf};
 ghost use Rattle.text_format.specs.Answers.{printedOf};
-ghost use Rattle.carry.specs.Carry.{carriedRead, carryAnswer, carryNodes, carryPool, Carriable, Carries};
+ghost use Rattle.carry.specs.Answers.{carriedRead};
+ghost use Rattle.carry.specs.Carry.{carryAnswer, carryNodes, carryPool, Carriable, Carries};
 
 // What carrying gives: the nodes and pool bytes made, or a refusal's number and place, and which of the two calls refused.
 pub enum Carried {

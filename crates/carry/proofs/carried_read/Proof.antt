@@ -1,6 +1,6 @@
 -- `carry::carried_read` meets its contract.
 use mathlib.Core.Path.{sym, ap}
-use Rattle.carry.specs.Carry.{carriedRead}
+use Rattle.carry.specs.Answers.{carriedRead}
 use borrow.Author.Needs.{needs}
 use Rattle.carry.proofs.carried_read.Statement.{statement}
 use Rattle.carry.proofs.carried_read.Tie as tie
