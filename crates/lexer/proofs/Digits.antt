@@ -48,6 +48,16 @@ module _ (s : List ℕ) (at : ℕ) where
 
 -- ---- digits
 
+-- a digit is worth no more than its byte
+pub digitValue-le : (b : ℕ) → digitValue b ≤ b
+unfolding digitValue
+digitValue-le b = go (leb 97 b) (leb 65 b)
+  where
+    go : (lower letter : Bool) → (if lower then (λ _. b - 87) else λ _. if letter then (λ _. b - 55) else λ _. b - 48) ≤ b
+    go true letter = omega arith
+    go false true = omega arith
+    go false false = omega arith
+
 module _ (base : ℕ) where
   module _ (s : List ℕ) (i n : ℕ) where
     pub worth-more : i < length s → worth base n (drop i s) ≡ worth base (n * base + digitValue (getD s i 0)) (drop (i + 1) s)
@@ -70,6 +80,10 @@ module _ (base : ℕ) where
 
     pub digit-over : (m d n : ℕ) → d ≤ m → (m - d) / base < n → m < n * base + d
     digit-over m d n h k = omega (arith, div-lt-iff-lt-mul {x = m - d} {y = n} pos .0 k)
+
+    -- what fits with the greatest digit fits with each
+    pub digit-sure : (m g d n : ℕ) → g ≤ m → d ≤ g → n ≤ (m - g) / base → n * base + d ≤ m
+    digit-sure m g d n h k l = omega (arith, digit-fits m g n h l)
 
 -- ---- the base
 
@@ -168,13 +182,13 @@ module _ (raw : List ℕ) (at base : ℕ) where
       let e : n ≡ worth base 0 (drop at raw) = sym (worth-end base raw i n h) ∙ r .left in
       rw (← e) (sym (within false greatest n (r .fits) ∙ ap Worth (unsigned n)))
 
-  module _ (pos : 0 < base) (n i d : ℕ) (r : Reading n i) (h : i < length raw) (e : d ≡ digitValue (getD raw i 0)) (k : d ≤ greatest) where
+  module _ (n i d : ℕ) (r : Reading n i) (h : i < length raw) (e : d ≡ digitValue (getD raw i 0)) where
     more : worth base (n * base + d) (drop (i + 1) raw) ≡ worth base 0 (drop at raw)
     more = rw e (sym (worth-more base raw i n h)) ∙ r .left
 
-    pub reading-on : n ≤ (greatest - d) / base → Reading (n * base + d) (i + 1)
-    reading-on l = record { left = more; fits = digit-fits base pos greatest d n k l }
+    pub reading-on : n * base + d ≤ greatest → Reading (n * base + d) (i + 1)
+    reading-on l = record { left = more; fits = l }
 
-    pub reading-over : (greatest - d) / base < n → Over ≡ answer
-    reading-over l =
-        sym (over false greatest (worth base 0 (drop at raw)) (omega (arith, digit-over base pos greatest d n k l, worth-grows base pos (drop (i + 1) raw) (n * base + d), more)))
+    pub reading-over : 0 < base → greatest < n * base + d → Over ≡ answer
+    reading-over pos l =
+        sym (over false greatest (worth base 0 (drop at raw)) (omega (arith, l, worth-grows base pos (drop (i + 1) raw) (n * base + d), more)))

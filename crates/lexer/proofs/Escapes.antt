@@ -101,16 +101,21 @@ module _ (b : ℕ) where
       next : 11 - i ≡ suc (11 - (i + 1))
       next = omega arith
 
-      pub searching-on : (getD escapes (2 * i) 0 ≡ b → ⊥) → Searching (i + 1)
-      unfolding find
-      searching-on k =
-          record { left = sym (rw (next, find, ne-eqb _ _ k)) ∙ r .left; few = omega arith }
+      -- the rows as a lent table has them
+      module _ (letters : List ℕ) (lent : letters ≡ escapes) where
+        read : (j : ℕ) → getD letters j 0 ≡ getD escapes j 0
+        read j = ap (λ (t : List ℕ). getD t j 0) lent
 
-      pub searching-found : getD escapes (2 * i) 0 ≡ b → Byte (getD escapes (2 * i + 1) 0) 2 ≡ told (letterPiece (findEscape b))
-      unfolding find
-      searching-found k =
-          let e : find row i (11 - i) ≡ some i = rw (next, find, eq-eqb _ _ k) in
-          ap (λ (o : Option ℕ). told (letterPiece o)) (sym e ∙ r .left)
+        pub searching-on : (getD letters (2 * i) 0 ≡ b → ⊥) → Searching (i + 1)
+        unfolding find
+        searching-on k =
+            record { left = sym (rw (next, find, ne-eqb _ _ (λ e. k (read (2 * i) ∙ e)))) ∙ r .left; few = omega arith }
+
+        pub searching-found : getD letters (2 * i) 0 ≡ b → Byte (getD letters (2 * i + 1) 0) 2 ≡ told (letterPiece (findEscape b))
+        unfolding find
+        searching-found k =
+            let e : find row i (11 - i) ≡ some i = rw (next, find, eq-eqb _ _ (sym (read (2 * i)) ∙ k)) in
+            ap (λ (v : ℕ). Byte v 2) (read (2 * i + 1)) ∙ ap (λ (o : Option ℕ). told (letterPiece o)) (sym e ∙ r .left)
 
 -- ---- an escape, from the byte after its backslash on
 

@@ -2,7 +2,8 @@
 pub use crate::answers::Integer;
 ghost use mathlib.Core.Path.{_≡_};
 ghost use mathlib.Core.Bool.{false};
-ghost use Prim.Native.Nat.{_<_};
+ghost use Prim.Native.Nat.{_+_, _*_, _-_, _/_, _<_, _≤_};
+ghost use lib.Dec.{ltb};
 ghost use lib.ListN.{drop};
 ghost use Rattle.definitions.specs.Integers.{digitValue, hexDigit, hexAhead, worth, integerValue, signed};
 ghost use Rattle.lexer.specs.Values.{greatest, integerOf};
@@ -14,16 +15,16 @@ const GREATEST: u64 = 18446744073709551615;
 fn digit_value(b: u8) -> u64
     ensures { λ r. ⌜ r ≡ digitValue b ⌝ }
 {
-    if 97 <= b {
-        return (b - 87) as u64;
+    if b < 65 {
+        if 48 <= b {
+            return (b - 48) as u64;
+        }
+        return 0;
     }
-    if 65 <= b {
+    if b < 97 {
         return (b - 55) as u64;
     }
-    if 48 <= b {
-        return (b - 48) as u64;
-    }
-    0
+    (b - 87) as u64
 }
 
 // `0` to `9`, `a` to `f`, `A` to `F`.
@@ -72,17 +73,32 @@ pub(crate) fn hex_ahead(s: &[u8], at: usize) -> bool
     false
 }
 
+// One digit more passes 64 bits. What is worth `sure` at most takes any byte's digit, so that few digits ask for the division.
+fn passes(n: u64, d: u64, base: u64, sure: u64) -> bool
+    requires { ⌜ (0 < base) × (d ≤ 255) × (sure ≡ (greatest - 255) / base) ⌝ }
+    ensures { λ r. ⌜ r ≡ ltb greatest (n * base + d) ⌝ }
+{
+    if n <= sure {
+        return false;
+    }
+    if (GREATEST - d) / base < n {
+        return true;
+    }
+    false
+}
+
 // The digits from a place on, in a base. A value that passes 64 bits never comes back, so the reading stops there.
 pub(crate) fn worth(raw: &[u8], at: usize, base: u64) -> Integer
     requires { ⌜ 0 < base ⌝ }
     ensures { λ r. ⌜ r ≡ integerOf false greatest (worth base 0 (drop at (now (raw .entry)))) ⌝ }
 {
+    let sure = (GREATEST - 255) / base;
     let mut n: u64 = 0;
     let mut i = at;
     while i < raw.len() {
         let b = raw[i];
         let d = digit_value(b);
-        if (GREATEST - d) / base < n {
+        if passes(n, d, base, sure) {
             return Integer::Over;
         }
         n = n * base + d;

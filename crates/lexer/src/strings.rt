@@ -9,7 +9,7 @@ ghost use Prim.Native.Nat.{_+_, _<_, _^_};
 ghost use lib.ListN.{length, drop, getD, set};
 ghost use lib.Seq.{sets};
 ghost use Rattle.definitions.specs.Integers.{octalDigit, worth};
-ghost use Rattle.definitions.specs.Strings.{findEscape, letterPiece, pieceOf, upTo, escapePiece, firstPiece, decode};
+ghost use Rattle.definitions.specs.Strings.{escapes, findEscape, letterPiece, pieceOf, upTo, escapePiece, firstPiece, decode};
 ghost use Rattle.lexer.specs.Values.{digitIn, told, decodedOf, decodedFront};
 
 // The escape letters and their bytes, a letter before its byte: \a \b \f \n \r \t \v \? \\ \' \"
@@ -37,6 +37,13 @@ const ESCAPES: [u8; 22] = [
     b'"',
     b'"',
 ];
+
+// The table, for the outermost caller to hold in a local and lend down.
+pub fn escapes() -> [u8; 22]
+    ensures { λ r. ⌜ r ≡ escapes ⌝ }
+{
+    ESCAPES
+}
 
 // A piece of a string: the byte that it stands for and how many bytes it takes, or no piece.
 pub enum Piece {
@@ -108,14 +115,14 @@ fn digits_piece(digits: &[u8], base: u64, count: usize) -> Piece
 }
 
 // The piece of an escape by a letter: the letter's row in the table.
-fn letter_piece(b: u8) -> Piece
+fn letter_piece(b: u8, letters: &[u8; 22]) -> Piece
+    requires { ⌜ now letters ≡ escapes ⌝ }
     ensures { λ r. ⌜ r ≡ told (letterPiece (findEscape b)) ⌝ }
 {
-    let table = ESCAPES;
     let mut i: usize = 0;
     while i < 11 {
-        if table[2 * i] == b {
-            return Piece::Byte(table[2 * i + 1], 2);
+        if letters[2 * i] == b {
+            return Piece::Byte(letters[2 * i + 1], 2);
         }
         i += 1;
     }
@@ -123,7 +130,8 @@ fn letter_piece(b: u8) -> Piece
 }
 
 // An escape, from the byte after its backslash on: octal digits, or `x` and hex digits, or a letter.
-fn escape_piece(raw: &[u8], at: usize) -> Piece
+fn escape_piece(raw: &[u8], at: usize, letters: &[u8; 22]) -> Piece
+    requires { ⌜ now letters ≡ escapes ⌝ }
     ensures { λ r. ⌜ r ≡ told (escapePiece (drop at (now (raw .entry)))) ⌝ }
 {
     if raw.len() <= at {
@@ -144,17 +152,17 @@ fn escape_piece(raw: &[u8], at: usize) -> Piece
         let end = from + n;
         return digits_piece(&raw[from..end], 16, 2 + n);
     }
-    letter_piece(b)
+    letter_piece(b, letters)
 }
 
 // The piece at a place: an escape after a backslash, else the byte itself.
-fn first_piece(raw: &[u8], at: usize) -> Piece
-    requires { ⌜ at < length (now raw) ⌝ }
+fn first_piece(raw: &[u8], at: usize, letters: &[u8; 22]) -> Piece
+    requires { ⌜ (now letters ≡ escapes) × (at < length (now raw)) ⌝ }
     ensures { λ r. ⌜ r ≡ told (firstPiece (getD (now (raw .entry)) at 0) (drop (at + 1) (now (raw .entry)))) ⌝ }
 {
     let b = raw[at];
     if b == 92 {
-        return escape_piece(raw, at + 1);
+        return escape_piece(raw, at + 1, letters);
     }
     Piece::Byte(b, 1)
 }
@@ -170,8 +178,8 @@ fn put(pool: &mut [u8], place: usize, b: u8)
 
 // What stands between the quotes, piece by piece. Each byte goes to the next place of the pool from `at` on, where the pool has that
 // place: lent an empty part it only counts. The answer is the count and whether the bytes are UTF-8.
-pub fn decode(raw: &[u8], pool: &mut [u8], at: usize) -> Decoded
-    requires { ⌜ at + length (now raw) < 2 ^ 64 ⌝ }
+pub fn decode(raw: &[u8], letters: &[u8; 22], pool: &mut [u8], at: usize) -> Decoded
+    requires { ⌜ (now letters ≡ escapes) × (at + length (now raw) < 2 ^ 64) ⌝ }
     ensures answer { λ r. ⌜ r ≡ decodedOf (decode (now (raw .entry))) ⌝ }
     ensures stored { λ _. ⌜ now (pool .exit) ≡ sets (now (pool .entry)) at (decodedFront (now (raw .entry))) ⌝ }
 {
@@ -179,7 +187,7 @@ pub fn decode(raw: &[u8], pool: &mut [u8], at: usize) -> Decoded
     let mut n: usize = 0;
     let mut i: usize = 0;
     while i < raw.len() {
-        let Piece::Byte(b, count) = first_piece(raw, i) else {
+        let Piece::Byte(b, count) = first_piece(raw, i, letters) else {
             return Decoded::Bad;
         };
         put(pool, at + n, b);

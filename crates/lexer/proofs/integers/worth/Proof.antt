@@ -1,16 +1,25 @@
 -- `lexer::integers::worth` meets its contract. The invariant: what is read so far, with the digits left, is worth the whole, and fits.
-use Prim.Native.Nat.{_-_}
+use mathlib.Core.Path.{refl, sym, _∙_}
+use Prim.Native.Nat.{_+_, _-_, _*_}
 use native.Mathlib.Omega.{arith}
-use lib.ListN.{length}
-use Rattle.lexer.proofs.Digits.{Reading, reading-start, reading-on, reading-over, reading-done, digit-fits}
+use lib.ListN.{length, getD}
+use borrow.Author.Tests.{ltb-true, ltb-false}
+use Rattle.lexer.specs.Values.{greatest}
+use Rattle.lexer.proofs.Digits.{Reading, reading-start, reading-on, reading-over, reading-done, digitValue-le}
 use Rattle.lexer.proofs.integers.worth.Statement.{statement}
 use Rattle.lexer.proofs.integers.worth.Tie as tie
 
 abbrev Inv-loop : tie.InvT-loop
-Inv-loop raw at base n₀ i₀ n i = Reading raw at base n i
+Inv-loop raw at base sure n₀ i₀ n i = Reading raw at base n i
 
 abbrev μ-loop : tie.MeasureT-loop
-μ-loop raw at base n₀ i₀ n i = length raw - i
+μ-loop raw at base sure n₀ i₀ n i = length raw - i
+
+sub-sure : tie.Need-sub-sure Inv-loop μ-loop
+sub-sure c = omega arith
+
+div-sure : tie.Need-div-sure Inv-loop μ-loop
+div-sure c = omega arith
 
 loop-holds : tie.Need-loop-holds Inv-loop μ-loop
 loop-holds c = reading-start _ _ _
@@ -21,20 +30,17 @@ shared-slice-read-b c = omega arith
 digit-value-requires : tie.Need-digit-value-requires Inv-loop μ-loop
 digit-value-requires c κs = tt
 
-sub-if1 : tie.Need-sub-if1 Inv-loop μ-loop
-sub-if1 c = omega arith
-
-div-if1 : tie.Need-div-if1 Inv-loop μ-loop
-div-if1 c = omega arith
+passes-requires : tie.Need-passes-requires Inv-loop μ-loop
+passes-requires c κs = (c .before .before .before .before .before .pre, omega (arith, c .digit-value .ensures, digitValue-le (getD (c .before .before .before .before .before .args .raw .now) (c .before .before .before .loop .i) 0), c .before .shared-slice-known2 .given (c .before .before .before .loop .i)), refl)
 
 returns : tie.Need-returns Inv-loop μ-loop
-returns c = reading-over _ _ _ (c .before .before .before .before .before .before .pre) _ _ _ (c .before .before .before .before .loop .inv) (c .before .before .before .loop-test .taken) (c .before .digit-value .ensures) (omega arith) (c .if1 .taken)
+returns c = reading-over _ _ _ _ _ _ (c .before .before .before .before .before .loop .inv) (c .before .before .before .before .loop-test .taken) (c .before .before .digit-value .ensures) (c .before .before .before .before .before .before .before .pre) (ltb-true _ _ (sym (c .before .passes .ensures) ∙ c .if1 .taken))
 
 mul-n : tie.Need-mul-n Inv-loop μ-loop
-mul-n c = omega (arith, digit-fits _ (c .before .before .before .before .before .before .pre) 18446744073709551615 (c .before .digit-value .result) _ (omega arith) (c .if1 .left))
+mul-n c = omega (arith, ltb-false greatest (c .before .before .before .before .before .loop .n * c .before .before .before .before .before .before .before .args .base + c .before .before .digit-value .result) (sym (c .before .passes .ensures) ∙ c .if1 .left))
 
 add-n : tie.Need-add-n Inv-loop μ-loop
-add-n c = omega (arith, digit-fits _ (c .before .before .before .before .before .before .pre) 18446744073709551615 (c .before .digit-value .result) _ (omega arith) (c .if1 .left))
+add-n c = omega (arith, ltb-false greatest (c .before .before .before .before .before .loop .n * c .before .before .before .before .before .before .before .args .base + c .before .before .digit-value .result) (sym (c .before .passes .ensures) ∙ c .if1 .left))
 
 add-i : tie.Need-add-i Inv-loop μ-loop
 add-i c = omega arith
@@ -43,7 +49,7 @@ loop-less : tie.Need-loop-less Inv-loop μ-loop
 loop-less c = omega arith
 
 loop-again : tie.Need-loop-again Inv-loop μ-loop
-loop-again c = reading-on _ _ _ (c .before .before .before .before .before .before .pre) _ _ _ (c .before .before .before .before .loop .inv) (c .before .before .before .loop-test .taken) (c .before .digit-value .ensures) (omega arith) (c .if1 .left)
+loop-again c = reading-on _ _ _ _ _ _ (c .before .before .before .before .before .loop .inv) (c .before .before .before .before .loop-test .taken) (c .before .before .digit-value .ensures) (ltb-false _ _ (sym (c .before .passes .ensures) ∙ c .if1 .left))
 
 returns-2 : tie.Need-returns-2 Inv-loop μ-loop
 returns-2 c = reading-done _ _ _ _ _ (c .before .loop .inv) (c .loop-test .left)
@@ -54,11 +60,12 @@ worth-spec =
     (tie.spec
     Inv-loop
     μ-loop
+    sub-sure
+    div-sure
     loop-holds
     shared-slice-read-b
     digit-value-requires
-    sub-if1
-    div-if1
+    passes-requires
     returns
     mul-n
     add-n

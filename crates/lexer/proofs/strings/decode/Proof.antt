@@ -9,16 +9,16 @@ use Rattle.lexer.proofs.strings.decode.Statement.{statement}
 use Rattle.lexer.proofs.strings.decode.Tie as tie
 
 abbrev Inv-loop : tie.InvT-loop
-Inv-loop raw pool₀ at u₀ n₀ i₀ pool u n i = Turn raw pool₀ at pool u n i
+Inv-loop raw letters pool₀ at u₀ n₀ i₀ pool u n i = Turn raw pool₀ at pool u n i
 
 abbrev μ-loop : tie.MeasureT-loop
-μ-loop raw pool₀ at u₀ n₀ i₀ pool u n i = length raw - i
+μ-loop raw letters pool₀ at u₀ n₀ i₀ pool u n i = length raw - i
 
 loop-holds : tie.Need-loop-holds Inv-loop μ-loop
 loop-holds c = turn-start _ _ _
 
 first-piece-requires : tie.Need-first-piece-requires Inv-loop μ-loop
-first-piece-requires c κs = c .loop-test .taken
+first-piece-requires c κs = (c .before .before .before .before .pre .0, c .loop-test .taken)
 
 enum-known-b : tie.Need-enum-known-b Inv-loop μ-loop
 enum-known-b c = search needs
@@ -33,7 +33,7 @@ returns : tie.Need-returns Inv-loop μ-loop
 returns c = turn-bad _ _ _ _ _ _ _ (c .before .before .before .before .loop .inv) (c .before .before .before .loop-test .taken) (sym (c .before .before .first-piece .ensures) ∙ c .enum-told .given .1)
 
 add-put : tie.Need-add-put Inv-loop μ-loop
-add-put c = omega (arith, c .before .before .before .before .before .before .loop .inv .few, c .before .before .before .before .before .loop-test .taken, c .before .before .before .before .before .before .before .before .before .pre)
+add-put c = omega (arith, c .before .before .before .before .before .before .loop .inv .few, c .before .before .before .before .before .loop-test .taken, c .before .before .before .before .before .before .before .before .before .pre .1)
 
 put-requires : tie.Need-put-requires Inv-loop μ-loop
 put-requires c κs = tt
@@ -42,13 +42,13 @@ step-requires : tie.Need-step-requires Inv-loop μ-loop
 step-requires c κs = tt
 
 add-n : tie.Need-add-n Inv-loop μ-loop
-add-n c = omega (arith, c .before .before .before .before .before .before .before .before .before .before .loop .inv .few, c .before .before .before .before .before .before .before .before .before .loop-test .taken, c .before .before .before .before .before .before .before .before .before .before .before .before .before .pre)
+add-n c = omega (arith, c .before .before .before .before .before .before .before .before .before .before .loop .inv .few, c .before .before .before .before .before .before .before .before .before .loop-test .taken, c .before .before .before .before .before .before .before .before .before .before .before .before .before .pre .1)
 
 add-i : tie.Need-add-i Inv-loop μ-loop
-add-i c = omega (arith, turn-takes _ _ _ _ _ _ _ (c .before .before .before .before .before .before .before .before .before .before .loop .inv) (c .before .before .before .before .before .before .before .before .before .loop-test .taken) _ _ (sym (c .before .before .before .before .before .before .before .before .first-piece .ensures) ∙ c .before .before .before .before .before .before .b .given .1), c .before .before .before .before .before .before .before .before .before .before .before .before .before .pre)
+add-i c = omega (arith, turn-takes _ _ _ _ _ _ _ (c .before .before .before .before .before .before .before .before .before .before .loop .inv) (c .before .before .before .before .before .before .before .before .before .loop-test .taken) _ _ (sym (c .before .before .before .before .before .before .before .before .first-piece .ensures) ∙ c .before .before .before .before .before .before .b .given .1), c .before .before .before .before .before .before .before .before .before .before .before .before .before .pre .1)
 
 loop-less : tie.Need-loop-less Inv-loop μ-loop
-loop-less c = omega (arith, turn-takes _ _ _ _ _ _ _ (c .before .before .before .before .before .before .before .before .before .before .loop .inv) (c .before .before .before .before .before .before .before .before .before .loop-test .taken) _ _ (sym (c .before .before .before .before .before .before .before .before .first-piece .ensures) ∙ c .before .before .before .before .before .before .b .given .1), c .before .before .before .before .before .before .before .before .before .before .before .before .before .pre, c .before .before .before .before .before .before .before .before .before .loop-test .taken)
+loop-less c = omega (arith, turn-takes _ _ _ _ _ _ _ (c .before .before .before .before .before .before .before .before .before .before .loop .inv) (c .before .before .before .before .before .before .before .before .before .loop-test .taken) _ _ (sym (c .before .before .before .before .before .before .before .before .first-piece .ensures) ∙ c .before .before .before .before .before .before .b .given .1), c .before .before .before .before .before .before .before .before .before .before .before .before .before .pre .1, c .before .before .before .before .before .before .before .before .before .loop-test .taken)
 
 loop-again : tie.Need-loop-again Inv-loop μ-loop
 loop-again c = turn-on _ _ _ _ _ _ _ (c .before .before .before .before .before .before .before .before .before .before .loop .inv) (c .before .before .before .before .before .before .before .before .before .loop-test .taken) _ _ (sym (c .before .before .before .before .before .before .before .before .first-piece .ensures) ∙ c .before .before .before .before .before .before .b .given .1) _ _ (c .before .before .before .put .ensures) (c .step .ensures)

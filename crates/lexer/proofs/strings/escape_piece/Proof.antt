@@ -72,7 +72,7 @@ returns-4 : tie.Need-returns-4
 returns-4 c = c .digits-piece2 .ensures ∙ sym (ap told (escape-hex _ _ (c .before .before .before .before .before .before .before .before .if1 .left) (sym (c .before .before .before .before .before .before .octal-digit .ensures) ∙ c .before .before .before .before .before .if2 .left) (c .before .before .before .before .if3 .taken) ∙ hex-part (c .before .before .before .before .before .before .before .before .before .before .args .raw .now) (c .before .before .before .before .before .before .before .before .before .before .args .at + 1) _ (c .before .before .before .run2 .ensures) (c .before .before .if4 .left)))
 
 letter-piece-requires : tie.Need-letter-piece-requires
-letter-piece-requires c κs = search needs
+letter-piece-requires c κs = c .before .before .before .before .before .before .pre
 
 returns-5 : tie.Need-returns-5
 returns-5 c = c .letter-piece .ensures ∙ sym (ap told (escape-letter _ _ (c .before .before .before .before .before .if1 .left) (sym (c .before .before .before .octal-digit .ensures) ∙ c .before .before .if2 .left) (c .before .if3 .left)))

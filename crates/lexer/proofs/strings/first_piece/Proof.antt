@@ -13,7 +13,7 @@ add-escape-piece : tie.Need-add-escape-piece
 add-escape-piece c = search needs
 
 escape-piece-requires : tie.Need-escape-piece-requires
-escape-piece-requires c κs = search needs
+escape-piece-requires c κs = c .before .before .before .pre .0
 
 returns : tie.Need-returns
 returns c = c .escape-piece .ensures ∙ sym (ap told (first-escape _ _ (c .before .if1 .taken)))
