@@ -1,13 +1,13 @@
 -- What an accepted image has: its length, runs that lie inside their tables, and records that are good, one by one.
-use mathlib.Core.Path.{_≡_, refl}
-use Prim.Native.Nat.{ℕ, _+_, _≤_, _<_}
-use mathlib.Core.Bool.{Bool, true, false, _&&_}
+use mathlib.Core.Path.{_≡_, refl, sym, _∙_, ap}
+use Prim.Native.Nat.{ℕ, _+_, _-_, _≤_, _<_}
+use mathlib.Core.Bool.{Bool, true, false, _&&_, not}
 use mathlib.Core.List.{List}
-use mathlib.Core.Option.{some}
+use mathlib.Core.Option.{Option, none, some}
 use native.Mathlib.Omega.{arith}
-use lib.Dec.{leb, eqb}
+use lib.Dec.{ltb, leb, eqb}
 use lib.ListN.{length}
-use borrow.Author.Tests.{eqb-true, leb-true, ltb-true, eqb-false, eq-eqb, ne-eqb}
+use borrow.Author.Tests.{eqb-true, leb-true, ltb-true, ltb-false, eqb-false, eq-eqb, ne-eqb, not-true}
 use Rattle.definitions.specs.declared.Span.{Span}
 use Rattle.definitions.specs.declared.Field.{Field}
 use Rattle.definitions.specs.Basics.{if_then_else_, between, same, all}
@@ -16,7 +16,7 @@ use Rattle.definitions.specs.Refusals.{mostNumber}
 use Rattle.definitions.specs.Image.{form, messageCount, fieldCount, enumCount, valueCount, nameCount, imageLength, message, enumeration, field, member, fieldAt, fieldZero, memberAt, memberZero, isMap, identifier, nameText, nameGood, running, keyGood, typeGood, fieldGood, memberGood, distinct, fieldsAgree, membersAgree, headerGood, recordsGood, accepted, fieldName, memberName, findField, findMember, findNumber}
 use Rattle.schema.specs.declared.Layout.{Layout}
 use Rattle.schema.specs.Known.{Placed, Fields, Members, Known}
-use Rattle.schema.proofs.TestLaws.{Hit, find-range, same-equal, absurd-test, and-left, and-right, all-at, running-inside}
+use Rattle.schema.proofs.TestLaws.{Hit, find-range, find-none, same-equal, equal-same, absurd-test, and-left, and-right, all-at, running-inside}
 
 -- ---- the parts of the rule
 
@@ -256,3 +256,40 @@ module _ (s : List ℕ) (good : accepted s ≡ true) (i : ℕ) where
   number-found e h n f =
       let k = find-range (λ j. eqb (member s j .number) n) (enumeration s e .first) (enumeration s e .count) i f in
       (hit-within (enumeration s e) (valueCount s) k (enum-inside s good e h), eqb-true (member s i .number) n (k .passes))
+
+-- ---- a field's own name finds it
+
+-- of two records of a run in which none agree, the first doesn't agree with the second
+distinct-apart : (agree : ℕ → ℕ → Bool) (r : Span) → distinct agree r ≡ true → (i j : ℕ) → r .first ≤ i → i < j → j < r .first + r .count → agree i j ≡ false
+unfolding distinct
+distinct-apart agree r e i j a b c =
+    let u : i ≡ r .first + (i - r .first) = omega arith in
+    let v : j ≡ r .first + (j - r .first) = omega arith in
+    let z =
+    all-at (j - r .first) (λ x. not (agree (r .first + x) (r .first + (j - r .first))))
+    (all-at (r .count) (λ y. all y (λ x. not (agree (r .first + x) (r .first + y)))) e (j - r .first) (omega arith)) (i - r .first)
+    (omega arith) in
+    not-true (agree i j) (rw (← u, ← v) at z)
+
+module _ (s : List ℕ) (good : accepted s ≡ true) (m : ℕ) (here : m < messageCount s) (name : List ℕ) where
+  names-apart : (i j : ℕ) → message s m .first ≤ i → i < j → j < message s m .first + message s m .count → fieldName s i ≡ name → fieldName s j ≡ name → ⊥
+  unfolding fieldsAgree
+  names-apart i j a b c p q =
+      let t : same (fieldName s i) (fieldName s j) ≡ true = equal-same (fieldName s i) (fieldName s j) (p ∙ sym q) in
+      let z =
+      distinct-apart (fieldsAgree s) (message s m)
+      (all-at (messageCount s) (λ x. distinct (fieldsAgree s) (message s x)) (accepted-records s good .apart) m here) i j a b c in
+      absurd-test (sym (rw t at z))
+
+  pub field-own : (i : ℕ) → message s m .first ≤ i → i < message s m .first + message s m .count → same (fieldName s i) name ≡ true → findField s m name ≡ some i
+  unfolding findField
+  field-own i a b e = go (findField s m name) refl
+    where
+      meet : (j : ℕ) → findField s m name ≡ some j → Within (message s m) (fieldCount s) j × (fieldName s j ≡ name) → (x y : Bool) → ltb i j ≡ x → ltb j i ≡ y → findField s m name ≡ some i
+      meet j q f true y p r = absurd (names-apart i j a (ltb-true i j p) (f .0 .high) (same-equal (fieldName s i) name e) (f .1))
+      meet j q f false true p r = absurd (names-apart j i (f .0 .low) (ltb-true j i r) b (f .1) (same-equal (fieldName s i) name e))
+      meet j q f false false p r = let z : j ≡ i = omega (arith, ltb-false i j p, ltb-false j i r) in q ∙ ap some z
+
+      go : (o : Option ℕ) → findField s m name ≡ o → findField s m name ≡ some i
+      go none q = absurd-test (sym (find-none (λ j. same (fieldName s j) name) (message s m .first) (message s m .count) i q a b) ∙ e)
+      go (some j) q = meet j q (field-found s good j m here name q) (ltb i j) (ltb j i) refl refl

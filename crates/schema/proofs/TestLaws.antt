@@ -129,6 +129,16 @@ unfolding find
 find-range p i zero k e = let z : _≡_ {A = ℕ} 0 1 = cc in absurd (omega arith)
 find-range p i (suc n) k e = hit-step p i n k (p i) refl (find-range p (i + 1) n k) e
 
+none-step : (p : ℕ → Bool) (i n k : ℕ) (b : Bool) → p i ≡ b → (find p (i + 1) n ≡ none → i + 1 ≤ k → p k ≡ false) → (if b then (λ _. some i) else λ _. find p (i + 1) n) ≡ none → i ≤ k → p k ≡ false
+none-step p i n k true h f e l = let z : _≡_ {A = ℕ} 0 1 = cc in absurd (omega arith)
+none-step p i n k false h f e l = ⊎-elim (λ q. rw (← q) h) (λ g. f e (omega arith)) (eq-or-lt-of-le l)
+
+-- where nothing is found, nothing passes
+pub find-none : (p : ℕ → Bool) (i n k : ℕ) → find p i n ≡ none → i ≤ k → k < i + n → p k ≡ false
+unfolding find
+find-none p i zero k e l h = absurd (omega arith)
+find-none p i (suc n) k e l h = none-step p i n k (p i) refl (λ f g. find-none p (i + 1) n k f g (omega arith)) e l
+
 -- ---- two lists are the same
 
 pub same-self : (a : List ℕ) → same a a ≡ true
