@@ -5,9 +5,10 @@ use mathlib.Core.Bool.{Bool, true, false, _&&_, _||_, not}
 use mathlib.Core.List.{List, [], _∷_, _++_}
 use mathlib.Core.Option.{Option, none, some}
 use native.Mathlib.Omega.{arith}
-use lib.ListN.{length}
-use lib.Dec.{leb, eqb}
-use borrow.Author.Tests.{eq-eqb, ne-eqb, eqb-false}
+use lib.ListN.{length, drop, getD}
+use lib.Seq.{drop-cons}
+use lib.Dec.{ltb, leb, eqb}
+use borrow.Author.Tests.{eq-eqb, ne-eqb, eqb-true, eqb-false, ltb-true}
 use Rattle.definitions.specs.declared.Place.{Place}
 use Rattle.definitions.specs.declared.Spot.{Spot}
 use Rattle.definitions.specs.declared.Token.{Token}
@@ -19,7 +20,8 @@ use Rattle.definitions.specs.Scope.{i32, i64, u32, u64, bool, string, byteStrin
 use Rattle.definitions.specs.Nodes.{widen}
 use Rattle.definitions.specs.Utf8.{utf8}
 use Rattle.definitions.specs.Integers.{integerValue, mostUnsigned, mostSigned, signed}
-use Rattle.definitions.specs.Tokens.{Scan, token, bad, scan, nameToken, integerToken, stringToken, minus, colon}
+use Rattle.definitions.specs.Classes.{class, classes, symbolClass}
+use Rattle.definitions.specs.Tokens.{Scan, token, bad, tokenOf, gap, skip, scanFrom, scan, nameToken, integerToken, stringToken, minus, colon}
 use Rattle.definitions.specs.Strings.{decode}
 use Rattle.definitions.specs.Loop.{Out, done, refused}
 use Rattle.definitions.specs.Reading.{moved, numberLeaf, runLeaf, integerTok, unsigned, negated, signedValue, trueName, falseName, boolValue, enumValue, stringValue, scalar, afterName, default}
@@ -34,6 +36,7 @@ use Rattle.parse.specs.declared.Answer.{Answer}
 use Rattle.parse.specs.declared.Answer.the-variants as answer
 use Rattle.lexer.specs.Steps.{stepOf}
 use Rattle.lexer.specs.Values.{integerOf, decodedOf}
+use Rattle.laws.proofs.Lists.{and-parts}
 use Rattle.laws.proofs.Reach.{reach}
 use Rattle.laws.proofs.Decoding.{decode-length}
 use Rattle.laws.proofs.Goes.{part-le}
@@ -263,6 +266,24 @@ module _ (image s : List ℕ) (w : Want) (q : Spot) where
   pub colon-on : (t : Token) (n : ℕ) → scan s (q .at) ≡ token t n → t .kind ≡ colon → afterName image s w q ≡ scalar image s w (moved n q)
   unfolding afterName
   colon-on t n e h = rw (e, eq-eqb _ _ h)
+
+-- a colon that stands right here, by the test for it
+pub colon-there : (s : List ℕ) (at : ℕ) (r : Bool) → r ≡ (ltb at (length s) && eqb (getD s at 0) colon) → r ≡ true → (at < length s) × (getD s at 0 ≡ colon)
+colon-there s at r e h =
+    let p = and-parts (ltb at (length s)) (eqb (getD s at 0) colon) (sym e ∙ h) in
+    (ltb-true at (length s) (p .0), eqb-true (getD s at 0) colon (p .1))
+
+symbol-here : (s r : List ℕ) (at c : ℕ) → drop at s ≡ c ∷ r → class c ≡ symbolClass → scan s at ≡ tokenOf c at (at + 1)
+unfolding scan skip gap scanFrom
+symbol-here s r at c d k =
+    let g : gap false (drop at s) ≡ 0 = rw (d, k) refl in
+    let z : at + 0 ≡ at = omega arith in
+    rw (g, z, d, k) refl
+
+-- is the token that a scan finds
+pub colon-here : (s : List ℕ) (at : ℕ) → at < length s → getD s at 0 ≡ colon → scan s at ≡ tokenOf colon at (at + 1)
+unfolding class classes
+colon-here s at h e = symbol-here s (drop (suc at) s) at colon (drop-cons s at 0 h ∙ ap (λ (b : ℕ). b ∷ drop (suc at) s) e) refl
 
 -- a fair spot moved to the end of a token
 pub moved-fair : (s : List ℕ) (q : Spot) (t : Token) (n : ℕ) → Fair s q → scan s (q .at) ≡ token t n → Fair s (moved n q)

@@ -15,6 +15,7 @@ use Rattle.definitions.specs.Image.{messageCount, fieldCount, enumCount, field,
 use Rattle.definitions.specs.Scope.{i32, u32, enum, body, mapEntry, within, hasField}
 use Rattle.definitions.specs.Tokens.{stringToken}
 use Rattle.definitions.specs.Classes.{classes}
+use Rattle.definitions.specs.Strings.{escapes}
 use Rattle.definitions.specs.Reading.{opens, closerOf, noted}
 use Rattle.definitions.specs.Loop.{Out, done, refused, Stand}
 use Rattle.lexer.specs.declared.tokens.Step.{Step}
@@ -50,6 +51,10 @@ putAt e k w = if ltb k (length e / 5) then (λ _. sets e (5 * k) w) else λ _. e
 -- the lent table is the table of classes
 abbrev pub Ready : List ℕ → Type 0
 Ready table = table ≡ classes
+
+-- and the other is the table of escape letters
+abbrev pub Lent : List ℕ → List ℕ → Type 0
+Lent table escape = Ready table × (escape ≡ escapes)
 
 -- a spot in a text of lawful length, with no more nodes and bytes than places passed
 pub record Fair (s : List ℕ) (q : Spot) : Type 0 where

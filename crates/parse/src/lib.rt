@@ -15,17 +15,18 @@ use schema::Layout;
 ghost use mathlib.Core.Path.{_≡_};
 ghost use mathlib.Core.List.{List};
 ghost use mathlib.Core.Bool.{true, _&&_, _||_, not};
-ghost use lib.Dec.{eqb};
+ghost use lib.Dec.{eqb, ltb};
 ghost use Prim.Native.Nat.{ℕ, _≤_, _<_, _+_};
-ghost use lib.ListN.{length};
+ghost use lib.ListN.{length, getD};
 ghost use Rattle.definitions.specs.Refusals.{mostText};
 ghost use Rattle.definitions.specs.Scope.{want, within, findIn, nests, string, byteString, body};
 ghost use Rattle.definitions.specs.Integers.{mostUnsigned, mostSigned};
 ghost use Rattle.definitions.specs.Tokens.{token, scan};
 ghost use Rattle.definitions.specs.Nodes.{words, widen};
-ghost use Rattle.definitions.specs.Reading.{numberLeaf, integerTok, unsigned, signedValue, boolValue, enumValue, stringValue, scalar, afterName, field, default, unless, closed, again, under, readBody, nodeRoom};
+ghost use Rattle.definitions.specs.Reading.{numberLeaf, integerTok, unsigned, signedValue, boolValue, enumValue, stringValue, scalar, afterName, field, default, unless, closed, again, under, readBody, rootWant, nodeRoom};
+ghost use Rattle.lexer.specs.Steps.{stepOf};
 ghost use Rattle.schema.specs.Known.{Known, foundOf};
-ghost use Rattle.parse.specs.Answers.{badOf, putAt, Fair, Ready, Fits, Holds, Reached, Answers, AnswersHere, Inside, closerFor, signedWidth, unsignedWidth, standing, KeyNoted, ValueNoted, refusalOf};
+ghost use Rattle.parse.specs.Answers.{badOf, putAt, Fair, Ready, Lent, Fits, Holds, Reached, Answers, AnswersHere, Inside, closerFor, signedWidth, unsignedWidth, standing, KeyNoted, ValueNoted, refusalOf};
 ghost use Rattle.parse.specs.Whole.{readOf, fittedRead, fittedNodes, fittedPool};
 ghost use Rattle.definitions.specs.Image.{messageCount};
 
@@ -39,6 +40,15 @@ pub enum Answer {
 pub enum Read {
     Made(usize, usize),
     No(u8, Place),
+}
+
+// The next token from a spot on.
+fn next_token(s: &[u8], table: &[u8; 256], q: Spot) -> Step
+    requires { ⌜ Ready (now table) ⌝ }
+    ensures { λ r. ⌜ r ≡ stepOf (scan (now (s .entry)) (q .at)) ⌝ }
+{
+    let c = Cursor { at: q.at };
+    c.next(s, table)
 }
 
 // A bad token's refusal, or that of a token that is not expected.
@@ -90,6 +100,24 @@ fn put_number(w: Want, q: Spot, at: usize, v: u64, nodes: &mut [u32]) -> Answer
         node: k + 1,
         byte: q.byte,
     })
+}
+
+// A node with others below it, up to the node `end`: a message or an entry.
+fn put_body(nodes: &mut [u32], k: usize, kind: u8, field: usize, end: usize)
+    requires { ⌜ (field < 4096) × (end ≤ mostText + 3) ⌝ }
+    ensures { λ _. ⌜ now (nodes .exit) ≡ putAt (now (nodes .entry)) k (words (record { kind = kind; field = field; high = 0; low = 0; end = end })) ⌝ }
+{
+    put(
+        nodes,
+        k,
+        Node {
+            kind: kind as u32,
+            field: field as u32,
+            high: 0,
+            low: 0,
+            end: end as u32,
+        },
+    );
 }
 
 // An integer's token: decimal, octal or hex, of at most `most`.
@@ -270,12 +298,13 @@ fn is_broken(kind: u8, utf8: bool) -> bool
 fn read_string(
     s: &[u8],
     table: &[u8; 256],
+    escape: &[u8; 22],
     w: Want,
     q: Spot,
     nodes: &mut [u32],
     pool: &mut [u8],
 ) -> Answer
-    requires { ⌜ Ready (now table) × Fair (now s) q × Holds w q ⌝ }
+    requires { ⌜ Lent (now table) (now escape) × Fair (now s) q × Holds w q ⌝ }
     ensures { λ r. ⌜ Answers (now (nodes .entry)) (now (nodes .exit)) (now (pool .entry)) (now (pool .exit)) q (stringValue (now (s .entry)) w q) r ⌝ }
 {
     let c = Cursor { at: q.at };
@@ -290,7 +319,7 @@ fn read_string(
     let from = place.offset + 1;
     let to = after.at - 1;
     let p = q.byte;
-    let Decoded::Bytes(count, utf8) = lexer::strings::decode(&s[from..to], pool, p) else {
+    let Decoded::Bytes(count, utf8) = lexer::strings::decode(&s[from..to], escape, pool, p) else {
         return Answer::No(11, place);
     };
     if is_broken(w.kind, utf8) {
@@ -321,12 +350,13 @@ fn read_scalar(
     image: &[u8],
     layout: Layout,
     table: &[u8; 256],
+    escape: &[u8; 22],
     w: Want,
     q: Spot,
     nodes: &mut [u32],
     pool: &mut [u8],
 ) -> Answer
-    requires { ⌜ Ready (now table) × Known (now image) layout × Fair (now s) q × Holds w q × Fits (now image) w ⌝ }
+    requires { ⌜ Lent (now table) (now escape) × Known (now image) layout × Fair (now s) q × Holds w q × Fits (now image) w ⌝ }
     ensures { λ r. ⌜ Answers (now (nodes .entry)) (now (nodes .exit)) (now (pool .entry)) (now (pool .exit)) q (scalar (now (image .entry)) (now (s .entry)) w q) r ⌝ }
 {
     let kind = w.kind;
@@ -342,7 +372,33 @@ fn read_scalar(
     if kind == 8 {
         return read_enum(s, image, layout, table, w, q, nodes);
     }
-    read_string(s, table, w, q, nodes, pool)
+    read_string(s, table, escape, w, q, nodes, pool)
+}
+
+// A colon that stands right here.
+fn is_colon(s: &[u8], at: usize) -> bool
+    ensures { λ r. ⌜ r ≡ (ltb at (length (now (s .entry))) && eqb (getD (now (s .entry)) at 0) 58) ⌝ }
+{
+    if at < s.len() {
+        return s[at] == 58;
+    }
+    false
+}
+
+// The next token where a colon is due: one that stands right here is taken without a scan.
+fn next_colon(s: &[u8], table: &[u8; 256], q: Spot) -> Step
+    requires { ⌜ Ready (now table) ⌝ }
+    ensures { λ r. ⌜ r ≡ stepOf (scan (now (s .entry)) (q .at)) ⌝ }
+{
+    let at = q.at;
+    if is_colon(s, at) {
+        let colon = Token {
+            kind: 58,
+            start: Place { offset: at },
+        };
+        return Step::Token(colon, Cursor { at: at + 1 });
+    }
+    next_token(s, table, q)
 }
 
 // `:` and a value.
@@ -351,16 +407,16 @@ fn read_colon(
     image: &[u8],
     layout: Layout,
     table: &[u8; 256],
+    escape: &[u8; 22],
     w: Want,
     q: Spot,
     nodes: &mut [u32],
     pool: &mut [u8],
 ) -> Answer
-    requires { ⌜ Ready (now table) × Known (now image) layout × Fair (now s) q × Holds w q × Fits (now image) w ⌝ }
+    requires { ⌜ Lent (now table) (now escape) × Known (now image) layout × Fair (now s) q × Holds w q × Fits (now image) w ⌝ }
     ensures { λ r. ⌜ Answers (now (nodes .entry)) (now (nodes .exit)) (now (pool .entry)) (now (pool .exit)) q (afterName (now (image .entry)) (now (s .entry)) w q) r ⌝ }
 {
-    let c = Cursor { at: q.at };
-    let st = c.next(s, table);
+    let st = next_colon(s, table, q);
     let Step::Token(t, after) = st else {
         return bad(st);
     };
@@ -373,16 +429,16 @@ fn read_colon(
         node: q.node,
         byte: q.byte,
     };
-    read_scalar(s, image, layout, table, w, on, nodes, pool)
+    read_scalar(s, image, layout, table, escape, w, on, nodes, pool)
 }
 
 // The field of that name in a message, or in an entry of a map: `key` or `value`.
-fn find_in(image: &[u8], layout: Layout, w: Want, name: &[u8]) -> Found
+fn find_in(image: &[u8], layout: Layout, w: Want, guess: usize, name: &[u8]) -> Found
     requires { ⌜ Known (now image) layout × Fits (now image) w × (nests (w .kind) ≡ true) ⌝ }
     ensures { λ r. ⌜ r ≡ foundOf (findIn (now (image .entry)) (within w) (now (name .entry))) ⌝ }
 {
     if w.kind != 10 {
-        return schema::find_field(image, layout, w.reference, name);
+        return schema::find_field(image, layout, w.reference, guess, name);
     }
     if schema::same(b"key", name) {
         return Found::At(0);
@@ -528,6 +584,7 @@ fn merge_field(
     image: &[u8],
     layout: Layout,
     table: &[u8; 256],
+    escape: &[u8; 22],
     w: Want,
     i: usize,
     left: usize,
@@ -535,11 +592,11 @@ fn merge_field(
     nodes: &mut [u32],
     pool: &mut [u8],
 ) -> Answer
-    requires { ⌜ Ready (now table) × Known (now image) layout × Fair (now s) q × Fits (now image) w × Inside (now image) w i × (nests (w .kind) ≡ true) ⌝ }
+    requires { ⌜ Lent (now table) (now escape) × Known (now image) layout × Fair (now s) q × Fits (now image) w × Inside (now image) w i × (nests (w .kind) ≡ true) ⌝ }
     ensures { λ r. ⌜ Answers (now (nodes .entry)) (now (nodes .exit)) (now (pool .entry)) (now (pool .exit)) q (field (under left (now (image .entry)) (now (s .entry))) (now (image .entry)) (now (s .entry)) (want (now (image .entry)) (within w) i) q) r ⌝ }
 {
     let asked = want_in(image, layout, w, i);
-    read_value_of_type(s, image, layout, table, asked, left, q, nodes, pool)
+    read_value_of_type(s, image, layout, table, escape, asked, left, q, nodes, pool)
 }
 
 // `:` and a scalar; or `{` or `<`, fields and the matching closer. `left` is how many levels deeper it may go.
@@ -548,36 +605,34 @@ fn read_value_of_type(
     image: &[u8],
     layout: Layout,
     table: &[u8; 256],
+    escape: &[u8; 22],
     w: Want,
     left: usize,
     q: Spot,
     nodes: &mut [u32],
     pool: &mut [u8],
 ) -> Answer
-    requires { ⌜ Ready (now table) × Known (now image) layout × Fair (now s) q × Holds w q × Fits (now image) w ⌝ }
+    requires { ⌜ Lent (now table) (now escape) × Known (now image) layout × Fair (now s) q × Holds w q × Fits (now image) w ⌝ }
     ensures { λ r. ⌜ Answers (now (nodes .entry)) (now (nodes .exit)) (now (pool .entry)) (now (pool .exit)) q (field (under left (now (image .entry)) (now (s .entry))) (now (image .entry)) (now (s .entry)) w q) r ⌝ }
 {
-    let kind = w.kind;
-    if kind < 9 {
-        return read_colon(s, image, layout, table, w, q, nodes, pool);
+    if w.kind < 9 {
+        return read_colon(s, image, layout, table, escape, w, q, nodes, pool);
     }
-    let c = Cursor { at: q.at };
-    let st = c.next(s, table);
+    let st = next_token(s, table, q);
     let Step::Token(t, after) = st else {
         return bad(st);
     };
     let place = t.start;
-    let closer = closer_of(kind, t.kind);
+    let closer = closer_of(w.kind, t.kind);
     if closer == 0 {
         return Answer::No(5, place);
     }
     if left == 0 {
         return Answer::No(12, place);
     }
-    let k = q.node;
     let inside = Spot {
         at: after.at,
-        node: k + 1,
+        node: q.node + 1,
         byte: q.byte,
     };
     let r = read_message(
@@ -585,6 +640,7 @@ fn read_value_of_type(
         image,
         layout,
         table,
+        escape,
         w,
         closer,
         left - 1,
@@ -595,17 +651,7 @@ fn read_value_of_type(
     let Answer::Done(next) = r else {
         return r;
     };
-    put(
-        nodes,
-        k,
-        Node {
-            kind: kind as u32,
-            field: w.field as u32,
-            high: 0,
-            low: 0,
-            end: next.node as u32,
-        },
-    );
+    put_body(nodes, q.node, w.kind, w.field, next.node);
     Answer::Done(next)
 }
 
@@ -666,6 +712,7 @@ fn read_message(
     image: &[u8],
     layout: Layout,
     table: &[u8; 256],
+    escape: &[u8; 22],
     w: Want,
     closer: u8,
     left: usize,
@@ -673,15 +720,15 @@ fn read_message(
     nodes: &mut [u32],
     pool: &mut [u8],
 ) -> Answer
-    requires { ⌜ Ready (now table) × Known (now image) layout × Fair (now s) q × Fits (now image) w × (nests (w .kind) ≡ true) ⌝ }
+    requires { ⌜ Lent (now table) (now escape) × Known (now image) layout × Fair (now s) q × Fits (now image) w × (nests (w .kind) ≡ true) ⌝ }
     ensures { λ r. ⌜ Answers (now (nodes .entry)) (now (nodes .exit)) (now (pool .entry)) (now (pool .exit)) q (readBody left (now (image .entry)) (now (s .entry)) (within w) closer q) r ⌝ }
 {
     let mut here = q;
     let mut key = false;
     let mut value = false;
+    let mut guess = 0;
     loop {
-        let c = Cursor { at: here.at };
-        let st = c.next(s, table);
+        let st = next_token(s, table, here);
         let Step::Token(t, after) = st else {
             return bad(st);
         };
@@ -699,17 +746,18 @@ fn read_message(
         }
         let from = place.offset;
         let to = after.at;
-        let Found::At(i) = find_in(image, layout, w, &s[from..to]) else {
+        let Found::At(i) = find_in(image, layout, w, guess, &s[from..to]) else {
             return Answer::No(6, place);
         };
         if is_again(w, i, key, value) {
             return Answer::No(8, place);
         }
-        let r = merge_field(s, image, layout, table, w, i, left, on, nodes, pool);
+        let r = merge_field(s, image, layout, table, escape, w, i, left, on, nodes, pool);
         let Answer::Done(next) = r else {
             return r;
         };
         here = next;
+        guess = i;
         key = has_key(w, i, key);
         value = has_value(w, i, value);
     }
@@ -721,6 +769,45 @@ fn node_room(words: usize) -> usize
 {
     let room = words / 5;
     if 65535 < room { 65535 } else { room }
+}
+
+// The root's fields, up to the end of the text.
+fn read_root(
+    s: &[u8],
+    image: &[u8],
+    layout: Layout,
+    table: &[u8; 256],
+    escape: &[u8; 22],
+    root: usize,
+    nodes: &mut [u32],
+    pool: &mut [u8],
+) -> Answer
+    requires { ⌜ Lent (now table) (now escape) × Known (now image) layout × (root < messageCount (now image)) × (length (now s) ≤ mostText) ⌝ }
+    ensures { λ r. ⌜ Answers (now (nodes .entry)) (now (nodes .exit)) (now (pool .entry)) (now (pool .exit)) (record { at = 0; node = 1; byte = 0 }) (readBody 32 (now (image .entry)) (now (s .entry)) (within (rootWant root)) 0 (record { at = 0; node = 1; byte = 0 })) r ⌝ }
+{
+    let start = Spot {
+        at: 0,
+        node: 1,
+        byte: 0,
+    };
+    let w = Want {
+        kind: 9,
+        reference: root,
+        field: 0,
+    };
+    read_message(
+        s,
+        image,
+        layout,
+        table,
+        escape,
+        w,
+        0,
+        32,
+        start,
+        nodes,
+        pool,
+    )
 }
 
 // A whole text: the first pass counts and finds the first fault, over empty parts of the table and the pool; the second stores.
@@ -738,25 +825,14 @@ pub fn read_text(
     ensures bytes { λ _. ⌜ now (pool .exit) ≡ fittedPool (now (image .entry)) root (now (s .entry)) (length (now (nodes .entry))) (now (pool .entry)) ⌝ }
 {
     let table = lexer::classes::table();
-    let start = Spot {
-        at: 0,
-        node: 1,
-        byte: 0,
-    };
-    let w = Want {
-        kind: 9,
-        reference: root,
-        field: 0,
-    };
-    let counted = read_message(
+    let escape = lexer::strings::escapes();
+    let counted = read_root(
         s,
         image,
         layout,
         &table,
-        w,
-        0,
-        32,
-        start,
+        &escape,
+        root,
         &mut nodes[..0],
         &mut pool[..0],
     );
@@ -771,18 +847,8 @@ pub fn read_text(
     if pool.len() < b {
         return Read::No(14, Place { offset: b });
     }
-    read_message(s, image, layout, &table, w, 0, 32, start, nodes, pool);
-    put(
-        nodes,
-        0,
-        Node {
-            kind: 9,
-            field: 0,
-            high: 0,
-            low: 0,
-            end: n as u32,
-        },
-    );
+    read_root(s, image, layout, &table, &escape, root, nodes, pool);
+    put_body(nodes, 0, 9, 0, n);
     Read::Made(n, b)
 }
 

@@ -1,7 +1,6 @@
 -- The cycle of message, field and value readers. The text left falls at every call; a field's value stands where the field does,
 -- so the measure counts twice and one more for a field and a message. The loop's invariant says what is read and stored so far.
 use denote.Ref.{now}
-use borrow.Author.Needs.{needs}
 use mathlib.Core.Path.{_≡_, refl, sym, ap, _∙_}
 use Prim.Native.Nat.{ℕ, suc, _<_, _≤_, _+_, _-_, _*_}
 use native.Mathlib.Omega.{arith}
@@ -16,6 +15,7 @@ use Rattle.parse.proofs.Steps.{scanned, scanned-bad, bad-is, reached, n
 use Rattle.parse.proofs.Wants.{want-fits, want-field, found-inside}
 use Rattle.parse.proofs.Turns.{Rest, begins, ends, rest-bad, rest-closed, rest-other, rest-unknown, rest-twice, falls as name-falls, fair-after, field-no, further, next-inside, goes-on, stands, again-at}
 use Rattle.parse.proofs.Nested.{closed-at, nests-high, field-plain, field-bad, field-other, field-deep, child-falls, child-fair, nested-no, nested-node, nested-put}
+use borrow.Author.Needs.{needs}
 use borrow.Fn.Kinds.{In}
 use borrow.Fn.PlainCycle.{Measures, is, falls, and}
 use Rattle.parse.proofs.merge_field.Reads as merge-field
@@ -27,7 +27,7 @@ use Rattle.parse.proofs.+merge_field+read_message+read_value_of_type.Lt
 use Rattle.parse.proofs.read_value_of_type.Reads as read-value-of-type
 use Rattle.parse.proofs.read_value_of_type.Kinds as read-value-of-type-kinds
 use Rattle.parse.proofs.+merge_field+read_message+read_value_of_type.Lts-read_value_of_type as read-value-of-type-lts
-use Rattle.lexer.proofs.tokens.Cursor.next.Reads as next-reads
+use Rattle.parse.proofs.next_token.Reads as next-token-reads
 use Rattle.parse.proofs.bad.Reads as bad-reads
 use Rattle.parse.proofs.close_body.Reads as close-body-reads
 use Rattle.parse.proofs.closer_of.Reads as closer-of-reads
@@ -35,55 +35,55 @@ use Rattle.parse.proofs.find_in.Reads as find-in-reads
 use Rattle.parse.proofs.has_key.Reads as has-key-reads
 use Rattle.parse.proofs.has_value.Reads as has-value-reads
 use Rattle.parse.proofs.is_again.Reads as is-again-reads
-use Rattle.parse.proofs.put.Reads as put-reads
+use Rattle.parse.proofs.put_body.Reads as put-body-reads
 use Rattle.parse.proofs.read_colon.Reads as read-colon-reads
 use Rattle.parse.proofs.want_in.Reads as want-in-reads
 use Rattle.parse.proofs.+merge_field+read_message+read_value_of_type.{statement}
 use Rattle.parse.proofs.+merge_field+read_message+read_value_of_type.Tie.{close}
 
-abbrev μ-merge-field : Measures 5 merge-field-kinds.ps ℕ
-μ-merge-field κs a = 2 * (length (a .0 .now) - a .1 .1 .1 .1 .1 .1 .1 .0 .at) + 1
+abbrev μ-merge-field : Measures 6 merge-field-kinds.ps ℕ
+μ-merge-field κs a = 2 * (length (a .0 .now) - a .1 .1 .1 .1 .1 .1 .1 .1 .0 .at) + 1
 
-abbrev μ-read-message : Measures 5 read-message-kinds.ps ℕ
-μ-read-message κs a = 2 * (length (a .0 .now) - a .1 .1 .1 .1 .1 .1 .1 .0 .at) + 1
+abbrev μ-read-message : Measures 6 read-message-kinds.ps ℕ
+μ-read-message κs a = 2 * (length (a .0 .now) - a .1 .1 .1 .1 .1 .1 .1 .1 .0 .at) + 1
 
-abbrev μ-read-value-of-type : Measures 5 read-value-of-type-kinds.ps ℕ
-μ-read-value-of-type κs a = 2 * (length (a .0 .now) - a .1 .1 .1 .1 .1 .1 .0 .at)
+abbrev μ-read-value-of-type : Measures 6 read-value-of-type-kinds.ps ℕ
+μ-read-value-of-type κs a = 2 * (length (a .0 .now) - a .1 .1 .1 .1 .1 .1 .1 .0 .at)
 
-abbrev merge-field-at : ℕ → In 5 merge-field-kinds.ps
+abbrev merge-field-at : ℕ → In 6 merge-field-kinds.ps
 merge-field-at t =
-    and 5 merge-field-kinds.ps (is 5 merge-field-kinds.ps μ-merge-field t) merge-field.Pre
+    and 6 merge-field-kinds.ps (is 6 merge-field-kinds.ps μ-merge-field t) merge-field.Pre
 
-abbrev merge-field-below : ℕ → In 5 merge-field-kinds.ps
+abbrev merge-field-below : ℕ → In 6 merge-field-kinds.ps
 merge-field-below t =
-    and 5 merge-field-kinds.ps (falls 5 merge-field-kinds.ps _<_ μ-merge-field t) merge-field.Pre
+    and 6 merge-field-kinds.ps (falls 6 merge-field-kinds.ps _<_ μ-merge-field t) merge-field.Pre
 
-abbrev read-message-at : ℕ → In 5 read-message-kinds.ps
+abbrev read-message-at : ℕ → In 6 read-message-kinds.ps
 read-message-at t =
-    and 5 read-message-kinds.ps (is 5 read-message-kinds.ps μ-read-message t) read-message.Pre
+    and 6 read-message-kinds.ps (is 6 read-message-kinds.ps μ-read-message t) read-message.Pre
 
-abbrev read-message-below : ℕ → In 5 read-message-kinds.ps
+abbrev read-message-below : ℕ → In 6 read-message-kinds.ps
 read-message-below t =
     and
-    5
+    6
     read-message-kinds.ps
-    (falls 5 read-message-kinds.ps _<_ μ-read-message t)
+    (falls 6 read-message-kinds.ps _<_ μ-read-message t)
     read-message.Pre
 
-abbrev read-value-of-type-at : ℕ → In 5 read-value-of-type-kinds.ps
+abbrev read-value-of-type-at : ℕ → In 6 read-value-of-type-kinds.ps
 read-value-of-type-at t =
     and
-    5
+    6
     read-value-of-type-kinds.ps
-    (is 5 read-value-of-type-kinds.ps μ-read-value-of-type t)
+    (is 6 read-value-of-type-kinds.ps μ-read-value-of-type t)
     read-value-of-type.Pre
 
-abbrev read-value-of-type-below : ℕ → In 5 read-value-of-type-kinds.ps
+abbrev read-value-of-type-below : ℕ → In 6 read-value-of-type-kinds.ps
 read-value-of-type-below t =
     and
-    5
+    6
     read-value-of-type-kinds.ps
-    (falls 5 read-value-of-type-kinds.ps _<_ μ-read-value-of-type t)
+    (falls 6 read-value-of-type-kinds.ps _<_ μ-read-value-of-type t)
     read-value-of-type.Pre
 
 merge-field-want-in-requires : (t : ℕ) → merge-field-lts.Need-want-in-requires (
@@ -112,7 +112,7 @@ merge-field-same-length : (t : ℕ) → merge-field-lts.Need-same-length (
   read-value-of-type-below t,
   read-value-of-type.Post,
 ) (merge-field-at t) merge-field.Post
-merge-field-same-length t c = c .before .before .before .before .read-value-of-type .kept .1 .1 .1 .1 .1 .1 .1 .0
+merge-field-same-length t c = c .before .before .before .before .read-value-of-type .kept .1 .1 .1 .1 .1 .1 .1 .1 .0
 
 merge-field-same-length-2 : (t : ℕ) → merge-field-lts.Need-same-length-2 (
   want-in-reads.Asked,
@@ -120,7 +120,7 @@ merge-field-same-length-2 : (t : ℕ) → merge-field-lts.Need-same-length-2 (
   read-value-of-type-below t,
   read-value-of-type.Post,
 ) (merge-field-at t) merge-field.Post
-merge-field-same-length-2 t c = c .before .before .before .before .read-value-of-type .kept .1 .1 .1 .1 .1 .1 .1 .1 .0
+merge-field-same-length-2 t c = c .before .before .before .before .read-value-of-type .kept .1 .1 .1 .1 .1 .1 .1 .1 .1 .0
 
 merge-field-returns : (t : ℕ) → merge-field-lts.Need-returns (
   want-in-reads.Asked,
@@ -131,14 +131,14 @@ merge-field-returns : (t : ℕ) → merge-field-lts.Need-returns (
 merge-field-returns t c = answers-by _ _ _ _ _ _ _ _ (ap (λ (v : Want). field (under (c .before .before .before .before .before .before .before .before .before .before .before .before .args .left) (now (c .before .before .before .before .before .before .before .before .before .before .before .before .args .image)) (now (c .before .before .before .before .before .before .before .before .before .before .before .before .args .s))) (now (c .before .before .before .before .before .before .before .before .before .before .before .before .args .image)) (now (c .before .before .before .before .before .before .before .before .before .before .before .before .args .s)) v (c .before .before .before .before .before .before .before .before .before .before .before .before .args .q)) (sym (c .before .before .before .before .before .before .before .want-in .ensures))) (c .before .before .before .before .read-value-of-type .ensures)
 
 abbrev read-message-Inv-loop : read-message-lts.InvT-loop
-read-message-Inv-loop s image layout table w closer left nodes₀ pool₀ here₀ key₀ value₀ nodes pool here key value = Rest left image s w closer here₀ (standing here key value) nodes₀ nodes pool₀ pool
+read-message-Inv-loop s image layout table escape w closer left nodes₀ pool₀ here₀ key₀ value₀ guess₀ nodes pool here key value guess = Rest left image s w closer here₀ (standing here key value) nodes₀ nodes pool₀ pool
 
 abbrev read-message-μ-loop : read-message-lts.MeasureT-loop
-read-message-μ-loop s image layout table w closer left nodes₀ pool₀ here₀ key₀ value₀ nodes pool here key value = length s - here .at
+read-message-μ-loop s image layout table escape w closer left nodes₀ pool₀ here₀ key₀ value₀ guess₀ nodes pool here key value guess = length s - here .at
 
 read-message-loop-holds : (t : ℕ) → read-message-lts.Need-loop-holds (
-  next-reads.Asked,
-  next-reads.Learnt,
+  next-token-reads.Asked,
+  next-token-reads.Learnt,
   bad-reads.Asked,
   bad-reads.Learnt,
   close-body-reads.Asked,
@@ -156,9 +156,9 @@ read-message-loop-holds : (t : ℕ) → read-message-lts.Need-loop-holds (
 ) (read-message-at t) read-message.Post read-message-Inv-loop read-message-μ-loop
 read-message-loop-holds t c = begins _ _ _ (c .before .before .before .before .args .w) _ _ _ _ (c .before .before .before .before .pre .1 .2)
 
-read-message-next-requires : (t : ℕ) → read-message-lts.Need-next-requires (
-  next-reads.Asked,
-  next-reads.Learnt,
+read-message-next-token-requires : (t : ℕ) → read-message-lts.Need-next-token-requires (
+  next-token-reads.Asked,
+  next-token-reads.Learnt,
   bad-reads.Asked,
   bad-reads.Learnt,
   close-body-reads.Asked,
@@ -174,11 +174,11 @@ read-message-next-requires : (t : ℕ) → read-message-lts.Need-next-requires (
   has-value-reads.Asked,
   has-value-reads.Learnt,
 ) (read-message-at t) read-message.Post read-message-Inv-loop read-message-μ-loop
-read-message-next-requires t c κs = c .before .before .before .before .before .pre .1 .0
+read-message-next-token-requires t c κs = c .before .before .before .before .before .pre .1 .0 .0
 
 read-message-enum-known-st : (t : ℕ) → read-message-lts.Need-enum-known-st (
-  next-reads.Asked,
-  next-reads.Learnt,
+  next-token-reads.Asked,
+  next-token-reads.Learnt,
   bad-reads.Asked,
   bad-reads.Learnt,
   close-body-reads.Asked,
@@ -197,8 +197,8 @@ read-message-enum-known-st : (t : ℕ) → read-message-lts.Need-enum-known-st (
 read-message-enum-known-st t c = search needs
 
 read-message-enum-told : (t : ℕ) → read-message-lts.Need-enum-told (
-  next-reads.Asked,
-  next-reads.Learnt,
+  next-token-reads.Asked,
+  next-token-reads.Learnt,
   bad-reads.Asked,
   bad-reads.Learnt,
   close-body-reads.Asked,
@@ -217,8 +217,8 @@ read-message-enum-told : (t : ℕ) → read-message-lts.Need-enum-told (
 read-message-enum-told t c = search needs
 
 read-message-bad-requires : (t : ℕ) → read-message-lts.Need-bad-requires (
-  next-reads.Asked,
-  next-reads.Learnt,
+  next-token-reads.Asked,
+  next-token-reads.Learnt,
   bad-reads.Asked,
   bad-reads.Learnt,
   close-body-reads.Asked,
@@ -237,8 +237,8 @@ read-message-bad-requires : (t : ℕ) → read-message-lts.Need-bad-requires (
 read-message-bad-requires t c κs = search needs
 
 read-message-same-length : (t : ℕ) → read-message-lts.Need-same-length (
-  next-reads.Asked,
-  next-reads.Learnt,
+  next-token-reads.Asked,
+  next-token-reads.Learnt,
   bad-reads.Asked,
   bad-reads.Learnt,
   close-body-reads.Asked,
@@ -257,8 +257,8 @@ read-message-same-length : (t : ℕ) → read-message-lts.Need-same-length (
 read-message-same-length t c = c .before .before .before .before .loop .inv .long
 
 read-message-same-length-2 : (t : ℕ) → read-message-lts.Need-same-length-2 (
-  next-reads.Asked,
-  next-reads.Learnt,
+  next-token-reads.Asked,
+  next-token-reads.Learnt,
   bad-reads.Asked,
   bad-reads.Learnt,
   close-body-reads.Asked,
@@ -277,8 +277,8 @@ read-message-same-length-2 : (t : ℕ) → read-message-lts.Need-same-length-2 (
 read-message-same-length-2 t c = c .before .before .before .before .loop .inv .wide
 
 read-message-returns : (t : ℕ) → read-message-lts.Need-returns (
-  next-reads.Asked,
-  next-reads.Learnt,
+  next-token-reads.Asked,
+  next-token-reads.Learnt,
   bad-reads.Asked,
   bad-reads.Learnt,
   close-body-reads.Asked,
@@ -294,11 +294,11 @@ read-message-returns : (t : ℕ) → read-message-lts.Need-returns (
   has-value-reads.Asked,
   has-value-reads.Learnt,
 ) (read-message-at t) read-message.Post read-message-Inv-loop read-message-μ-loop
-read-message-returns t c = ends _ _ _ (c .before .before .before .before .before .before .before .before .before .args .w) _ _ _ _ _ _ _ _ _ _ (c .before .before .before .before .loop .inv) (no-answers _ _ _ _ _ _ _ _ _ (rest-bad _ _ _ (c .before .before .before .before .before .before .before .before .before .args .w) _ _ (c .before .before .before .before .loop .inv .fair .inside) _ (scanned-bad _ _ _ (c .before .before .before .next .ensures) (c .before .enum-told .given .1))) (bad-is _ _ _ (c .before .enum-told .given .1) (c .bad .ensures)))
+read-message-returns t c = ends _ _ _ (c .before .before .before .before .before .before .before .before .before .args .w) _ _ _ _ _ _ _ _ _ _ (c .before .before .before .before .loop .inv) (no-answers _ _ _ _ _ _ _ _ _ (rest-bad _ _ _ (c .before .before .before .before .before .before .before .before .before .args .w) _ _ (c .before .before .before .before .loop .inv .fair .inside) _ (scanned-bad _ _ _ (c .before .before .before .next-token .ensures) (c .before .enum-told .given .1))) (bad-is _ _ _ (c .before .enum-told .given .1) (c .bad .ensures)))
 
 read-message-close-body-requires : (t : ℕ) → read-message-lts.Need-close-body-requires (
-  next-reads.Asked,
-  next-reads.Learnt,
+  next-token-reads.Asked,
+  next-token-reads.Learnt,
   bad-reads.Asked,
   bad-reads.Learnt,
   close-body-reads.Asked,
@@ -317,8 +317,8 @@ read-message-close-body-requires : (t : ℕ) → read-message-lts.Need-close-bod
 read-message-close-body-requires t c κs = (c .before .before .before .before .before .before .before .before .before .before .before .before .before .pre .1 .1, c .before .before .before .before .before .before .before .before .before .before .before .before .before .pre .1 .3, omega (arith, c .before .before .before .before .before .before .before .before .loop .inv .fair .nodes, c .before .before .before .before .before .before .before .before .loop .inv .fair .inside, c .before .before .before .before .before .before .before .before .loop .inv .fair .short), omega (arith, c .before .before .before .before .before .before .before .before .loop .inv .fair .bytes, c .before .before .before .before .before .before .before .before .loop .inv .fair .inside, c .before .before .before .before .before .before .before .before .loop .inv .fair .short))
 
 read-message-same-length-3 : (t : ℕ) → read-message-lts.Need-same-length-3 (
-  next-reads.Asked,
-  next-reads.Learnt,
+  next-token-reads.Asked,
+  next-token-reads.Learnt,
   bad-reads.Asked,
   bad-reads.Learnt,
   close-body-reads.Asked,
@@ -337,8 +337,8 @@ read-message-same-length-3 : (t : ℕ) → read-message-lts.Need-same-length-3 (
 read-message-same-length-3 t c = c .before .before .close-body .kept .1 .1 .1 .1 .1 .1 .1 .1 .0 ∙ c .before .before .before .before .before .before .before .before .before .before .before .loop .inv .long
 
 read-message-same-length-4 : (t : ℕ) → read-message-lts.Need-same-length-4 (
-  next-reads.Asked,
-  next-reads.Learnt,
+  next-token-reads.Asked,
+  next-token-reads.Learnt,
   bad-reads.Asked,
   bad-reads.Learnt,
   close-body-reads.Asked,
@@ -357,8 +357,8 @@ read-message-same-length-4 : (t : ℕ) → read-message-lts.Need-same-length-4 (
 read-message-same-length-4 t c = c .before .before .before .before .before .before .before .before .before .before .before .loop .inv .wide
 
 read-message-returns-2 : (t : ℕ) → read-message-lts.Need-returns-2 (
-  next-reads.Asked,
-  next-reads.Learnt,
+  next-token-reads.Asked,
+  next-token-reads.Learnt,
   bad-reads.Asked,
   bad-reads.Learnt,
   close-body-reads.Asked,
@@ -374,11 +374,11 @@ read-message-returns-2 : (t : ℕ) → read-message-lts.Need-returns-2 (
   has-value-reads.Asked,
   has-value-reads.Learnt,
 ) (read-message-at t) read-message.Post read-message-Inv-loop read-message-μ-loop
-read-message-returns-2 t c = ends _ _ _ (c .before .before .before .before .before .before .before .before .before .before .before .before .before .before .before .before .args .w) _ _ _ _ _ _ _ _ _ _ (c .before .before .before .before .before .before .before .before .before .before .before .loop .inv) (answers-by _ _ _ _ _ _ _ _ (rest-closed _ _ _ (c .before .before .before .before .before .before .before .before .before .before .before .before .before .before .before .before .args .w) _ _ (c .before .before .before .before .before .before .before .before .before .before .before .loop .inv .fair .inside) _ _ (scanned _ _ _ _ (c .before .before .before .before .before .before .before .before .before .before .next .ensures) (c .before .before .before .before .before .before .before .before .st .given .1)) (c .before .before .before .before .if1 .taken) ∙ closed-at _ _ _ _ _ _ _ _) (answers-from _ _ _ _ _ _ _ _ refl refl (c .before .before .close-body .ensures _)))
+read-message-returns-2 t c = ends _ _ _ (c .before .before .before .before .before .before .before .before .before .before .before .before .before .before .before .before .args .w) _ _ _ _ _ _ _ _ _ _ (c .before .before .before .before .before .before .before .before .before .before .before .loop .inv) (answers-by _ _ _ _ _ _ _ _ (rest-closed _ _ _ (c .before .before .before .before .before .before .before .before .before .before .before .before .before .before .before .before .args .w) _ _ (c .before .before .before .before .before .before .before .before .before .before .before .loop .inv .fair .inside) _ _ (scanned _ _ _ _ (c .before .before .before .before .before .before .before .before .before .before .next-token .ensures) (c .before .before .before .before .before .before .before .before .st .given .1)) (c .before .before .before .before .if1 .taken) ∙ closed-at _ _ _ _ _ _ _ _) (answers-from _ _ _ _ _ _ _ _ refl refl (c .before .before .close-body .ensures _)))
 
 read-message-same-length-5 : (t : ℕ) → read-message-lts.Need-same-length-5 (
-  next-reads.Asked,
-  next-reads.Learnt,
+  next-token-reads.Asked,
+  next-token-reads.Learnt,
   bad-reads.Asked,
   bad-reads.Learnt,
   close-body-reads.Asked,
@@ -397,8 +397,8 @@ read-message-same-length-5 : (t : ℕ) → read-message-lts.Need-same-length-5 (
 read-message-same-length-5 t c = c .before .before .before .before .before .before .before .before .before .loop .inv .long
 
 read-message-same-length-6 : (t : ℕ) → read-message-lts.Need-same-length-6 (
-  next-reads.Asked,
-  next-reads.Learnt,
+  next-token-reads.Asked,
+  next-token-reads.Learnt,
   bad-reads.Asked,
   bad-reads.Learnt,
   close-body-reads.Asked,
@@ -417,8 +417,8 @@ read-message-same-length-6 : (t : ℕ) → read-message-lts.Need-same-length-6 (
 read-message-same-length-6 t c = c .before .before .before .before .before .before .before .before .before .loop .inv .wide
 
 read-message-returns-3 : (t : ℕ) → read-message-lts.Need-returns-3 (
-  next-reads.Asked,
-  next-reads.Learnt,
+  next-token-reads.Asked,
+  next-token-reads.Learnt,
   bad-reads.Asked,
   bad-reads.Learnt,
   close-body-reads.Asked,
@@ -434,11 +434,11 @@ read-message-returns-3 : (t : ℕ) → read-message-lts.Need-returns-3 (
   has-value-reads.Asked,
   has-value-reads.Learnt,
 ) (read-message-at t) read-message.Post read-message-Inv-loop read-message-μ-loop
-read-message-returns-3 t c = ends _ _ _ (c .before .before .before .before .before .before .before .before .before .before .before .before .before .before .args .w) _ _ _ _ _ _ _ _ _ _ (c .before .before .before .before .before .before .before .before .before .loop .inv) (no-answers _ _ _ _ _ _ _ _ _ (rest-other _ _ _ (c .before .before .before .before .before .before .before .before .before .before .before .before .before .before .args .w) _ _ (c .before .before .before .before .before .before .before .before .before .loop .inv .fair .inside) _ _ (scanned _ _ _ _ (c .before .before .before .before .before .before .before .before .next .ensures) (c .before .before .before .before .before .before .st .given .1)) (c .before .before .if1 .left) (c .if2 .taken)) refl)
+read-message-returns-3 t c = ends _ _ _ (c .before .before .before .before .before .before .before .before .before .before .before .before .before .before .args .w) _ _ _ _ _ _ _ _ _ _ (c .before .before .before .before .before .before .before .before .before .loop .inv) (no-answers _ _ _ _ _ _ _ _ _ (rest-other _ _ _ (c .before .before .before .before .before .before .before .before .before .before .before .before .before .before .args .w) _ _ (c .before .before .before .before .before .before .before .before .before .loop .inv .fair .inside) _ _ (scanned _ _ _ _ (c .before .before .before .before .before .before .before .before .next-token .ensures) (c .before .before .before .before .before .before .st .given .1)) (c .before .before .if1 .left) (c .if2 .taken)) refl)
 
 read-message-sub-find-in : (t : ℕ) → read-message-lts.Need-sub-find-in (
-  next-reads.Asked,
-  next-reads.Learnt,
+  next-token-reads.Asked,
+  next-token-reads.Learnt,
   bad-reads.Asked,
   bad-reads.Learnt,
   close-body-reads.Asked,
@@ -454,11 +454,11 @@ read-message-sub-find-in : (t : ℕ) → read-message-lts.Need-sub-find-in (
   has-value-reads.Asked,
   has-value-reads.Learnt,
 ) (read-message-at t) read-message.Post read-message-Inv-loop read-message-μ-loop
-read-message-sub-find-in t c = let z = reached _ _ _ _ (c .before .before .before .before .before .before .before .before .before .loop .inv .fair .inside) (scanned _ _ _ _ (c .before .before .before .before .before .before .before .before .next .ensures) (c .before .before .before .before .before .before .st .given .1)) in omega (arith, z .forward, z .inside)
+read-message-sub-find-in t c = let z = reached _ _ _ _ (c .before .before .before .before .before .before .before .before .before .loop .inv .fair .inside) (scanned _ _ _ _ (c .before .before .before .before .before .before .before .before .next-token .ensures) (c .before .before .before .before .before .before .st .given .1)) in omega (arith, z .forward, z .inside)
 
 read-message-part-find-in-start : (t : ℕ) → read-message-lts.Need-part-find-in-start (
-  next-reads.Asked,
-  next-reads.Learnt,
+  next-token-reads.Asked,
+  next-token-reads.Learnt,
   bad-reads.Asked,
   bad-reads.Learnt,
   close-body-reads.Asked,
@@ -474,11 +474,11 @@ read-message-part-find-in-start : (t : ℕ) → read-message-lts.Need-part-find-
   has-value-reads.Asked,
   has-value-reads.Learnt,
 ) (read-message-at t) read-message.Post read-message-Inv-loop read-message-μ-loop
-read-message-part-find-in-start t c = let z = reached _ _ _ _ (c .before .before .before .before .before .before .before .before .before .loop .inv .fair .inside) (scanned _ _ _ _ (c .before .before .before .before .before .before .before .before .next .ensures) (c .before .before .before .before .before .before .st .given .1)) in omega (arith, z .forward, z .inside)
+read-message-part-find-in-start t c = let z = reached _ _ _ _ (c .before .before .before .before .before .before .before .before .before .loop .inv .fair .inside) (scanned _ _ _ _ (c .before .before .before .before .before .before .before .before .next-token .ensures) (c .before .before .before .before .before .before .st .given .1)) in omega (arith, z .forward, z .inside)
 
 read-message-part-find-in-end : (t : ℕ) → read-message-lts.Need-part-find-in-end (
-  next-reads.Asked,
-  next-reads.Learnt,
+  next-token-reads.Asked,
+  next-token-reads.Learnt,
   bad-reads.Asked,
   bad-reads.Learnt,
   close-body-reads.Asked,
@@ -494,11 +494,11 @@ read-message-part-find-in-end : (t : ℕ) → read-message-lts.Need-part-find-in
   has-value-reads.Asked,
   has-value-reads.Learnt,
 ) (read-message-at t) read-message.Post read-message-Inv-loop read-message-μ-loop
-read-message-part-find-in-end t c = let z = reached _ _ _ _ (c .before .before .before .before .before .before .before .before .before .loop .inv .fair .inside) (scanned _ _ _ _ (c .before .before .before .before .before .before .before .before .next .ensures) (c .before .before .before .before .before .before .st .given .1)) in omega (arith, z .forward, z .inside)
+read-message-part-find-in-end t c = let z = reached _ _ _ _ (c .before .before .before .before .before .before .before .before .before .loop .inv .fair .inside) (scanned _ _ _ _ (c .before .before .before .before .before .before .before .before .next-token .ensures) (c .before .before .before .before .before .before .st .given .1)) in omega (arith, z .forward, z .inside)
 
 read-message-find-in-requires : (t : ℕ) → read-message-lts.Need-find-in-requires (
-  next-reads.Asked,
-  next-reads.Learnt,
+  next-token-reads.Asked,
+  next-token-reads.Learnt,
   bad-reads.Asked,
   bad-reads.Learnt,
   close-body-reads.Asked,
@@ -517,8 +517,8 @@ read-message-find-in-requires : (t : ℕ) → read-message-lts.Need-find-in-requ
 read-message-find-in-requires t c κs = (c .before .before .before .before .before .before .before .before .before .before .before .before .before .before .before .pre .1 .1, c .before .before .before .before .before .before .before .before .before .before .before .before .before .before .before .pre .1 .3, c .before .before .before .before .before .before .before .before .before .before .before .before .before .before .before .pre .1 .4)
 
 read-message-enum-known-i : (t : ℕ) → read-message-lts.Need-enum-known-i (
-  next-reads.Asked,
-  next-reads.Learnt,
+  next-token-reads.Asked,
+  next-token-reads.Learnt,
   bad-reads.Asked,
   bad-reads.Learnt,
   close-body-reads.Asked,
@@ -537,8 +537,8 @@ read-message-enum-known-i : (t : ℕ) → read-message-lts.Need-enum-known-i (
 read-message-enum-known-i t c = search needs
 
 read-message-enum-told-2 : (t : ℕ) → read-message-lts.Need-enum-told-2 (
-  next-reads.Asked,
-  next-reads.Learnt,
+  next-token-reads.Asked,
+  next-token-reads.Learnt,
   bad-reads.Asked,
   bad-reads.Learnt,
   close-body-reads.Asked,
@@ -557,8 +557,8 @@ read-message-enum-told-2 : (t : ℕ) → read-message-lts.Need-enum-told-2 (
 read-message-enum-told-2 t c = search needs
 
 read-message-same-length-7 : (t : ℕ) → read-message-lts.Need-same-length-7 (
-  next-reads.Asked,
-  next-reads.Learnt,
+  next-token-reads.Asked,
+  next-token-reads.Learnt,
   bad-reads.Asked,
   bad-reads.Learnt,
   close-body-reads.Asked,
@@ -577,8 +577,8 @@ read-message-same-length-7 : (t : ℕ) → read-message-lts.Need-same-length-7 (
 read-message-same-length-7 t c = c .before .before .before .before .before .before .before .before .before .before .before .before .before .loop .inv .long
 
 read-message-same-length-8 : (t : ℕ) → read-message-lts.Need-same-length-8 (
-  next-reads.Asked,
-  next-reads.Learnt,
+  next-token-reads.Asked,
+  next-token-reads.Learnt,
   bad-reads.Asked,
   bad-reads.Learnt,
   close-body-reads.Asked,
@@ -597,8 +597,8 @@ read-message-same-length-8 : (t : ℕ) → read-message-lts.Need-same-length-8 (
 read-message-same-length-8 t c = c .before .before .before .before .before .before .before .before .before .before .before .before .before .loop .inv .wide
 
 read-message-returns-4 : (t : ℕ) → read-message-lts.Need-returns-4 (
-  next-reads.Asked,
-  next-reads.Learnt,
+  next-token-reads.Asked,
+  next-token-reads.Learnt,
   bad-reads.Asked,
   bad-reads.Learnt,
   close-body-reads.Asked,
@@ -614,11 +614,11 @@ read-message-returns-4 : (t : ℕ) → read-message-lts.Need-returns-4 (
   has-value-reads.Asked,
   has-value-reads.Learnt,
 ) (read-message-at t) read-message.Post read-message-Inv-loop read-message-μ-loop
-read-message-returns-4 t c = ends _ _ _ (c .before .before .before .before .before .before .before .before .before .before .before .before .before .before .before .before .before .before .args .w) _ _ _ _ _ _ _ _ _ _ (c .before .before .before .before .before .before .before .before .before .before .before .before .before .loop .inv) (no-answers _ _ _ _ _ _ _ _ _ (rest-unknown _ _ _ (c .before .before .before .before .before .before .before .before .before .before .before .before .before .before .before .before .before .before .args .w) _ _ (c .before .before .before .before .before .before .before .before .before .before .before .before .before .loop .inv .fair .inside) _ _ (scanned _ _ _ _ (c .before .before .before .before .before .before .before .before .before .before .before .before .next .ensures) (c .before .before .before .before .before .before .before .before .before .before .st .given .1)) (c .before .before .before .before .before .before .if1 .left) (c .before .before .before .before .if2 .left) (nothing-is _ (sym (c .enum-told2 .given .1) ∙ c .before .before .find-in .ensures))) refl)
+read-message-returns-4 t c = ends _ _ _ (c .before .before .before .before .before .before .before .before .before .before .before .before .before .before .before .before .before .before .args .w) _ _ _ _ _ _ _ _ _ _ (c .before .before .before .before .before .before .before .before .before .before .before .before .before .loop .inv) (no-answers _ _ _ _ _ _ _ _ _ (rest-unknown _ _ _ (c .before .before .before .before .before .before .before .before .before .before .before .before .before .before .before .before .before .before .args .w) _ _ (c .before .before .before .before .before .before .before .before .before .before .before .before .before .loop .inv .fair .inside) _ _ (scanned _ _ _ _ (c .before .before .before .before .before .before .before .before .before .before .before .before .next-token .ensures) (c .before .before .before .before .before .before .before .before .before .before .st .given .1)) (c .before .before .before .before .before .before .if1 .left) (c .before .before .before .before .if2 .left) (nothing-is _ (sym (c .enum-told2 .given .1) ∙ c .before .before .find-in .ensures))) refl)
 
 read-message-is-again-requires : (t : ℕ) → read-message-lts.Need-is-again-requires (
-  next-reads.Asked,
-  next-reads.Learnt,
+  next-token-reads.Asked,
+  next-token-reads.Learnt,
   bad-reads.Asked,
   bad-reads.Learnt,
   close-body-reads.Asked,
@@ -637,8 +637,8 @@ read-message-is-again-requires : (t : ℕ) → read-message-lts.Need-is-again-re
 read-message-is-again-requires t c κs = search needs
 
 read-message-same-length-9 : (t : ℕ) → read-message-lts.Need-same-length-9 (
-  next-reads.Asked,
-  next-reads.Learnt,
+  next-token-reads.Asked,
+  next-token-reads.Learnt,
   bad-reads.Asked,
   bad-reads.Learnt,
   close-body-reads.Asked,
@@ -657,8 +657,8 @@ read-message-same-length-9 : (t : ℕ) → read-message-lts.Need-same-length-9 (
 read-message-same-length-9 t c = c .before .before .before .before .before .before .before .before .before .before .before .before .before .before .before .before .loop .inv .long
 
 read-message-same-length-10 : (t : ℕ) → read-message-lts.Need-same-length-10 (
-  next-reads.Asked,
-  next-reads.Learnt,
+  next-token-reads.Asked,
+  next-token-reads.Learnt,
   bad-reads.Asked,
   bad-reads.Learnt,
   close-body-reads.Asked,
@@ -677,8 +677,8 @@ read-message-same-length-10 : (t : ℕ) → read-message-lts.Need-same-length-10
 read-message-same-length-10 t c = c .before .before .before .before .before .before .before .before .before .before .before .before .before .before .before .before .loop .inv .wide
 
 read-message-returns-5 : (t : ℕ) → read-message-lts.Need-returns-5 (
-  next-reads.Asked,
-  next-reads.Learnt,
+  next-token-reads.Asked,
+  next-token-reads.Learnt,
   bad-reads.Asked,
   bad-reads.Learnt,
   close-body-reads.Asked,
@@ -694,11 +694,11 @@ read-message-returns-5 : (t : ℕ) → read-message-lts.Need-returns-5 (
   has-value-reads.Asked,
   has-value-reads.Learnt,
 ) (read-message-at t) read-message.Post read-message-Inv-loop read-message-μ-loop
-read-message-returns-5 t c = ends _ _ _ (c .before .before .before .before .before .before .before .before .before .before .before .before .before .before .before .before .before .before .before .before .before .args .w) _ _ _ _ _ _ _ _ _ _ (c .before .before .before .before .before .before .before .before .before .before .before .before .before .before .before .before .loop .inv) (no-answers _ _ _ _ _ _ _ _ _ (rest-twice _ _ _ (c .before .before .before .before .before .before .before .before .before .before .before .before .before .before .before .before .before .before .before .before .before .args .w) _ _ (c .before .before .before .before .before .before .before .before .before .before .before .before .before .before .before .before .loop .inv .fair .inside) _ _ (scanned _ _ _ _ (c .before .before .before .before .before .before .before .before .before .before .before .before .before .before .before .next .ensures) (c .before .before .before .before .before .before .before .before .before .before .before .before .before .st .given .1)) (c .before .before .before .before .before .before .before .before .before .if1 .left) (c .before .before .before .before .before .before .before .if2 .left) _ (found-is _ _ (sym (c .before .before .before .i .given .1) ∙ c .before .before .before .before .before .find-in .ensures)) (sym (c .if3 .taken) ∙ c .before .is-again .ensures ∙ again-at _ _ _ _ _ _)) refl)
+read-message-returns-5 t c = ends _ _ _ (c .before .before .before .before .before .before .before .before .before .before .before .before .before .before .before .before .before .before .before .before .before .args .w) _ _ _ _ _ _ _ _ _ _ (c .before .before .before .before .before .before .before .before .before .before .before .before .before .before .before .before .loop .inv) (no-answers _ _ _ _ _ _ _ _ _ (rest-twice _ _ _ (c .before .before .before .before .before .before .before .before .before .before .before .before .before .before .before .before .before .before .before .before .before .args .w) _ _ (c .before .before .before .before .before .before .before .before .before .before .before .before .before .before .before .before .loop .inv .fair .inside) _ _ (scanned _ _ _ _ (c .before .before .before .before .before .before .before .before .before .before .before .before .before .before .before .next-token .ensures) (c .before .before .before .before .before .before .before .before .before .before .before .before .before .st .given .1)) (c .before .before .before .before .before .before .before .before .before .if1 .left) (c .before .before .before .before .before .before .before .if2 .left) _ (found-is _ _ (sym (c .before .before .before .i .given .1) ∙ c .before .before .before .before .before .find-in .ensures)) (sym (c .if3 .taken) ∙ c .before .is-again .ensures ∙ again-at _ _ _ _ _ _)) refl)
 
 read-message-merge-field-requires : (t : ℕ) → read-message-lts.Need-merge-field-requires (
-  next-reads.Asked,
-  next-reads.Learnt,
+  next-token-reads.Asked,
+  next-token-reads.Learnt,
   bad-reads.Asked,
   bad-reads.Learnt,
   close-body-reads.Asked,
@@ -715,13 +715,13 @@ read-message-merge-field-requires : (t : ℕ) → read-message-lts.Need-merge-fi
   has-value-reads.Learnt,
 ) (read-message-at t) read-message.Post read-message-Inv-loop read-message-μ-loop
 read-message-merge-field-requires t c κs =
-    let lt = name-falls _ _ _ (c .before .before .before .before .before .before .before .before .before .before .before .before .before .before .before .before .before .before .before .before .before .before .before .args .w) _ _ _ _ _ _ _ (c .before .before .before .before .before .before .before .before .before .before .before .before .before .before .before .before .before .before .loop .inv) _ _ (scanned _ _ _ _ (c .before .before .before .before .before .before .before .before .before .before .before .before .before .before .before .before .before .next .ensures) (c .before .before .before .before .before .before .before .before .before .before .before .before .before .before .before .st .given .1)) (c .before .before .before .before .before .before .before .before .before .before .before .if1 .left) (c .before .before .before .before .before .before .before .before .before .if2 .left) _ (found-is _ _ (sym (c .before .before .before .before .before .i .given .1) ∙ c .before .before .before .before .before .before .before .find-in .ensures)) (sym (c .before .before .if3 .left) ∙ c .before .before .before .is-again .ensures ∙ again-at _ _ _ _ _ _) in
-    let fa = fair-after _ _ _ (c .before .before .before .before .before .before .before .before .before .before .before .before .before .before .before .before .before .before .before .before .before .before .before .args .w) _ _ _ _ _ _ _ (c .before .before .before .before .before .before .before .before .before .before .before .before .before .before .before .before .before .before .loop .inv) _ _ (scanned _ _ _ _ (c .before .before .before .before .before .before .before .before .before .before .before .before .before .before .before .before .before .next .ensures) (c .before .before .before .before .before .before .before .before .before .before .before .before .before .before .before .st .given .1)) (c .before .before .before .before .before .before .before .before .before .before .before .if1 .left) (c .before .before .before .before .before .before .before .before .before .if2 .left) _ (found-is _ _ (sym (c .before .before .before .before .before .i .given .1) ∙ c .before .before .before .before .before .before .before .find-in .ensures)) (sym (c .before .before .if3 .left) ∙ c .before .before .before .is-again .ensures ∙ again-at _ _ _ _ _ _) in
+    let lt = name-falls _ _ _ (c .before .before .before .before .before .before .before .before .before .before .before .before .before .before .before .before .before .before .before .before .before .before .before .args .w) _ _ _ _ _ _ _ (c .before .before .before .before .before .before .before .before .before .before .before .before .before .before .before .before .before .before .loop .inv) _ _ (scanned _ _ _ _ (c .before .before .before .before .before .before .before .before .before .before .before .before .before .before .before .before .before .next-token .ensures) (c .before .before .before .before .before .before .before .before .before .before .before .before .before .before .before .st .given .1)) (c .before .before .before .before .before .before .before .before .before .before .before .if1 .left) (c .before .before .before .before .before .before .before .before .before .if2 .left) _ (found-is _ _ (sym (c .before .before .before .before .before .i .given .1) ∙ c .before .before .before .before .before .before .before .find-in .ensures)) (sym (c .before .before .if3 .left) ∙ c .before .before .before .is-again .ensures ∙ again-at _ _ _ _ _ _) in
+    let fa = fair-after _ _ _ (c .before .before .before .before .before .before .before .before .before .before .before .before .before .before .before .before .before .before .before .before .before .before .before .args .w) _ _ _ _ _ _ _ (c .before .before .before .before .before .before .before .before .before .before .before .before .before .before .before .before .before .before .loop .inv) _ _ (scanned _ _ _ _ (c .before .before .before .before .before .before .before .before .before .before .before .before .before .before .before .before .before .next-token .ensures) (c .before .before .before .before .before .before .before .before .before .before .before .before .before .before .before .st .given .1)) (c .before .before .before .before .before .before .before .before .before .before .before .if1 .left) (c .before .before .before .before .before .before .before .before .before .if2 .left) _ (found-is _ _ (sym (c .before .before .before .before .before .i .given .1) ∙ c .before .before .before .before .before .before .before .find-in .ensures)) (sym (c .before .before .if3 .left) ∙ c .before .before .before .is-again .ensures ∙ again-at _ _ _ _ _ _) in
     (omega (arith, c .before .before .before .before .before .before .before .before .before .before .before .before .before .before .before .before .before .before .before .before .before .before .before .pre .0, lt, c .before .before .before .before .before .before .before .before .before .before .before .before .before .before .before .before .before .before .loop .inv .on, fa .inside), (c .before .before .before .before .before .before .before .before .before .before .before .before .before .before .before .before .before .before .before .before .before .before .before .pre .1 .0, c .before .before .before .before .before .before .before .before .before .before .before .before .before .before .before .before .before .before .before .before .before .before .before .pre .1 .1, fa, c .before .before .before .before .before .before .before .before .before .before .before .before .before .before .before .before .before .before .before .before .before .before .before .pre .1 .3, found-inside _ _ _ _ (found-is _ _ (sym (c .before .before .before .before .before .i .given .1) ∙ c .before .before .before .before .before .before .before .find-in .ensures)), c .before .before .before .before .before .before .before .before .before .before .before .before .before .before .before .before .before .before .before .before .before .before .before .pre .1 .4))
 
 read-message-enum-known-r : (t : ℕ) → read-message-lts.Need-enum-known-r (
-  next-reads.Asked,
-  next-reads.Learnt,
+  next-token-reads.Asked,
+  next-token-reads.Learnt,
   bad-reads.Asked,
   bad-reads.Learnt,
   close-body-reads.Asked,
@@ -740,8 +740,8 @@ read-message-enum-known-r : (t : ℕ) → read-message-lts.Need-enum-known-r (
 read-message-enum-known-r t c = search needs
 
 read-message-enum-told-3 : (t : ℕ) → read-message-lts.Need-enum-told-3 (
-  next-reads.Asked,
-  next-reads.Learnt,
+  next-token-reads.Asked,
+  next-token-reads.Learnt,
   bad-reads.Asked,
   bad-reads.Learnt,
   close-body-reads.Asked,
@@ -760,8 +760,8 @@ read-message-enum-told-3 : (t : ℕ) → read-message-lts.Need-enum-told-3 (
 read-message-enum-told-3 t c = search needs
 
 read-message-same-length-11 : (t : ℕ) → read-message-lts.Need-same-length-11 (
-  next-reads.Asked,
-  next-reads.Learnt,
+  next-token-reads.Asked,
+  next-token-reads.Learnt,
   bad-reads.Asked,
   bad-reads.Learnt,
   close-body-reads.Asked,
@@ -777,11 +777,11 @@ read-message-same-length-11 : (t : ℕ) → read-message-lts.Need-same-length-11
   has-value-reads.Asked,
   has-value-reads.Learnt,
 ) (read-message-at t) read-message.Post read-message-Inv-loop read-message-μ-loop
-read-message-same-length-11 t c = c .before .before .before .before .before .before .merge-field .kept .1 .1 .1 .1 .1 .1 .1 .1 .0 ∙ c .before .before .before .before .before .before .before .before .before .before .before .before .before .before .before .before .before .before .before .before .before .before .before .before .before .loop .inv .long
+read-message-same-length-11 t c = c .before .before .before .before .before .before .merge-field .kept .1 .1 .1 .1 .1 .1 .1 .1 .1 .0 ∙ c .before .before .before .before .before .before .before .before .before .before .before .before .before .before .before .before .before .before .before .before .before .before .before .before .before .loop .inv .long
 
 read-message-same-length-12 : (t : ℕ) → read-message-lts.Need-same-length-12 (
-  next-reads.Asked,
-  next-reads.Learnt,
+  next-token-reads.Asked,
+  next-token-reads.Learnt,
   bad-reads.Asked,
   bad-reads.Learnt,
   close-body-reads.Asked,
@@ -797,11 +797,11 @@ read-message-same-length-12 : (t : ℕ) → read-message-lts.Need-same-length-12
   has-value-reads.Asked,
   has-value-reads.Learnt,
 ) (read-message-at t) read-message.Post read-message-Inv-loop read-message-μ-loop
-read-message-same-length-12 t c = c .before .before .before .before .before .before .merge-field .kept .1 .1 .1 .1 .1 .1 .1 .1 .1 .0 ∙ c .before .before .before .before .before .before .before .before .before .before .before .before .before .before .before .before .before .before .before .before .before .before .before .before .before .loop .inv .wide
+read-message-same-length-12 t c = c .before .before .before .before .before .before .merge-field .kept .1 .1 .1 .1 .1 .1 .1 .1 .1 .1 .0 ∙ c .before .before .before .before .before .before .before .before .before .before .before .before .before .before .before .before .before .before .before .before .before .before .before .before .before .loop .inv .wide
 
 read-message-returns-6 : (t : ℕ) → read-message-lts.Need-returns-6 (
-  next-reads.Asked,
-  next-reads.Learnt,
+  next-token-reads.Asked,
+  next-token-reads.Learnt,
   bad-reads.Asked,
   bad-reads.Learnt,
   close-body-reads.Asked,
@@ -817,11 +817,11 @@ read-message-returns-6 : (t : ℕ) → read-message-lts.Need-returns-6 (
   has-value-reads.Asked,
   has-value-reads.Learnt,
 ) (read-message-at t) read-message.Post read-message-Inv-loop read-message-μ-loop
-read-message-returns-6 t c = ends _ _ _ (c .before .before .before .before .before .before .before .before .before .before .before .before .before .before .before .before .before .before .before .before .before .before .before .before .before .before .before .before .before .before .args .w) _ _ _ _ _ _ _ _ _ _ (c .before .before .before .before .before .before .before .before .before .before .before .before .before .before .before .before .before .before .before .before .before .before .before .before .before .loop .inv) (field-no _ _ _ (c .before .before .before .before .before .before .before .before .before .before .before .before .before .before .before .before .before .before .before .before .before .before .before .before .before .before .before .before .before .before .args .w) _ _ _ _ _ _ _ (c .before .before .before .before .before .before .before .before .before .before .before .before .before .before .before .before .before .before .before .before .before .before .before .before .before .loop .inv) _ _ (scanned _ _ _ _ (c .before .before .before .before .before .before .before .before .before .before .before .before .before .before .before .before .before .before .before .before .before .before .before .before .next .ensures) (c .before .before .before .before .before .before .before .before .before .before .before .before .before .before .before .before .before .before .before .before .before .before .st .given .1)) (c .before .before .before .before .before .before .before .before .before .before .before .before .before .before .before .before .before .before .if1 .left) (c .before .before .before .before .before .before .before .before .before .before .before .before .before .before .before .before .if2 .left) _ (found-is _ _ (sym (c .before .before .before .before .before .before .before .before .before .before .before .before .i .given .1) ∙ c .before .before .before .before .before .before .before .before .before .before .before .before .before .before .find-in .ensures)) (sym (c .before .before .before .before .before .before .before .before .before .if3 .left) ∙ c .before .before .before .before .before .before .before .before .before .before .is-again .ensures ∙ again-at _ _ _ _ _ _) _ _ _ (c .before .before .before .before .before .before .merge-field .ensures) _ _ (c .enum-told3 .given .1))
+read-message-returns-6 t c = ends _ _ _ (c .before .before .before .before .before .before .before .before .before .before .before .before .before .before .before .before .before .before .before .before .before .before .before .before .before .before .before .before .before .before .args .w) _ _ _ _ _ _ _ _ _ _ (c .before .before .before .before .before .before .before .before .before .before .before .before .before .before .before .before .before .before .before .before .before .before .before .before .before .loop .inv) (field-no _ _ _ (c .before .before .before .before .before .before .before .before .before .before .before .before .before .before .before .before .before .before .before .before .before .before .before .before .before .before .before .before .before .before .args .w) _ _ _ _ _ _ _ (c .before .before .before .before .before .before .before .before .before .before .before .before .before .before .before .before .before .before .before .before .before .before .before .before .before .loop .inv) _ _ (scanned _ _ _ _ (c .before .before .before .before .before .before .before .before .before .before .before .before .before .before .before .before .before .before .before .before .before .before .before .before .next-token .ensures) (c .before .before .before .before .before .before .before .before .before .before .before .before .before .before .before .before .before .before .before .before .before .before .st .given .1)) (c .before .before .before .before .before .before .before .before .before .before .before .before .before .before .before .before .before .before .if1 .left) (c .before .before .before .before .before .before .before .before .before .before .before .before .before .before .before .before .if2 .left) _ (found-is _ _ (sym (c .before .before .before .before .before .before .before .before .before .before .before .before .i .given .1) ∙ c .before .before .before .before .before .before .before .before .before .before .before .before .before .before .find-in .ensures)) (sym (c .before .before .before .before .before .before .before .before .before .if3 .left) ∙ c .before .before .before .before .before .before .before .before .before .before .is-again .ensures ∙ again-at _ _ _ _ _ _) _ _ _ (c .before .before .before .before .before .before .merge-field .ensures) _ _ (c .enum-told3 .given .1))
 
 read-message-has-key-requires : (t : ℕ) → read-message-lts.Need-has-key-requires (
-  next-reads.Asked,
-  next-reads.Learnt,
+  next-token-reads.Asked,
+  next-token-reads.Learnt,
   bad-reads.Asked,
   bad-reads.Learnt,
   close-body-reads.Asked,
@@ -840,8 +840,8 @@ read-message-has-key-requires : (t : ℕ) → read-message-lts.Need-has-key-requ
 read-message-has-key-requires t c κs = search needs
 
 read-message-has-value-requires : (t : ℕ) → read-message-lts.Need-has-value-requires (
-  next-reads.Asked,
-  next-reads.Learnt,
+  next-token-reads.Asked,
+  next-token-reads.Learnt,
   bad-reads.Asked,
   bad-reads.Learnt,
   close-body-reads.Asked,
@@ -860,8 +860,8 @@ read-message-has-value-requires : (t : ℕ) → read-message-lts.Need-has-value-
 read-message-has-value-requires t c κs = search needs
 
 read-message-loop-less : (t : ℕ) → read-message-lts.Need-loop-less (
-  next-reads.Asked,
-  next-reads.Learnt,
+  next-token-reads.Asked,
+  next-token-reads.Learnt,
   bad-reads.Asked,
   bad-reads.Learnt,
   close-body-reads.Asked,
@@ -878,13 +878,13 @@ read-message-loop-less : (t : ℕ) → read-message-lts.Need-loop-less (
   has-value-reads.Learnt,
 ) (read-message-at t) read-message.Post read-message-Inv-loop read-message-μ-loop
 read-message-loop-less t c =
-    let lt = further _ _ _ (c .before .before .before .before .before .before .before .before .before .before .before .before .before .before .before .before .before .before .before .before .before .before .before .before .before .before .before .before .before .before .before .before .before .args .w) _ _ _ _ _ _ _ (c .before .before .before .before .before .before .before .before .before .before .before .before .before .before .before .before .before .before .before .before .before .before .before .before .before .before .before .before .loop .inv) _ _ (scanned _ _ _ _ (c .before .before .before .before .before .before .before .before .before .before .before .before .before .before .before .before .before .before .before .before .before .before .before .before .before .before .before .next .ensures) (c .before .before .before .before .before .before .before .before .before .before .before .before .before .before .before .before .before .before .before .before .before .before .before .before .before .st .given .1)) (c .before .before .before .before .before .before .before .before .before .before .before .before .before .before .before .before .before .before .before .before .before .if1 .left) (c .before .before .before .before .before .before .before .before .before .before .before .before .before .before .before .before .before .before .before .if2 .left) _ (found-is _ _ (sym (c .before .before .before .before .before .before .before .before .before .before .before .before .before .before .before .i .given .1) ∙ c .before .before .before .before .before .before .before .before .before .before .before .before .before .before .before .before .before .find-in .ensures)) (sym (c .before .before .before .before .before .before .before .before .before .before .before .before .if3 .left) ∙ c .before .before .before .before .before .before .before .before .before .before .before .before .before .is-again .ensures ∙ again-at _ _ _ _ _ _) _ _ _ (c .before .before .before .before .before .before .before .before .before .merge-field .ensures) _ (c .before .before .before .r .given .1) in
-    let i = next-inside _ _ _ (c .before .before .before .before .before .before .before .before .before .before .before .before .before .before .before .before .before .before .before .before .before .before .before .before .before .before .before .before .before .before .before .before .before .args .w) _ _ _ _ _ _ _ (c .before .before .before .before .before .before .before .before .before .before .before .before .before .before .before .before .before .before .before .before .before .before .before .before .before .before .before .before .loop .inv) _ _ (scanned _ _ _ _ (c .before .before .before .before .before .before .before .before .before .before .before .before .before .before .before .before .before .before .before .before .before .before .before .before .before .before .before .next .ensures) (c .before .before .before .before .before .before .before .before .before .before .before .before .before .before .before .before .before .before .before .before .before .before .before .before .before .st .given .1)) (c .before .before .before .before .before .before .before .before .before .before .before .before .before .before .before .before .before .before .before .before .before .if1 .left) (c .before .before .before .before .before .before .before .before .before .before .before .before .before .before .before .before .before .before .before .if2 .left) _ (found-is _ _ (sym (c .before .before .before .before .before .before .before .before .before .before .before .before .before .before .before .i .given .1) ∙ c .before .before .before .before .before .before .before .before .before .before .before .before .before .before .before .before .before .find-in .ensures)) (sym (c .before .before .before .before .before .before .before .before .before .before .before .before .if3 .left) ∙ c .before .before .before .before .before .before .before .before .before .before .before .before .before .is-again .ensures ∙ again-at _ _ _ _ _ _) _ _ _ (c .before .before .before .before .before .before .before .before .before .merge-field .ensures) _ (c .before .before .before .r .given .1) in
+    let lt = further _ _ _ (c .before .before .before .before .before .before .before .before .before .before .before .before .before .before .before .before .before .before .before .before .before .before .before .before .before .before .before .before .before .before .before .before .before .args .w) _ _ _ _ _ _ _ (c .before .before .before .before .before .before .before .before .before .before .before .before .before .before .before .before .before .before .before .before .before .before .before .before .before .before .before .before .loop .inv) _ _ (scanned _ _ _ _ (c .before .before .before .before .before .before .before .before .before .before .before .before .before .before .before .before .before .before .before .before .before .before .before .before .before .before .before .next-token .ensures) (c .before .before .before .before .before .before .before .before .before .before .before .before .before .before .before .before .before .before .before .before .before .before .before .before .before .st .given .1)) (c .before .before .before .before .before .before .before .before .before .before .before .before .before .before .before .before .before .before .before .before .before .if1 .left) (c .before .before .before .before .before .before .before .before .before .before .before .before .before .before .before .before .before .before .before .if2 .left) _ (found-is _ _ (sym (c .before .before .before .before .before .before .before .before .before .before .before .before .before .before .before .i .given .1) ∙ c .before .before .before .before .before .before .before .before .before .before .before .before .before .before .before .before .before .find-in .ensures)) (sym (c .before .before .before .before .before .before .before .before .before .before .before .before .if3 .left) ∙ c .before .before .before .before .before .before .before .before .before .before .before .before .before .is-again .ensures ∙ again-at _ _ _ _ _ _) _ _ _ (c .before .before .before .before .before .before .before .before .before .merge-field .ensures) _ (c .before .before .before .r .given .1) in
+    let i = next-inside _ _ _ (c .before .before .before .before .before .before .before .before .before .before .before .before .before .before .before .before .before .before .before .before .before .before .before .before .before .before .before .before .before .before .before .before .before .args .w) _ _ _ _ _ _ _ (c .before .before .before .before .before .before .before .before .before .before .before .before .before .before .before .before .before .before .before .before .before .before .before .before .before .before .before .before .loop .inv) _ _ (scanned _ _ _ _ (c .before .before .before .before .before .before .before .before .before .before .before .before .before .before .before .before .before .before .before .before .before .before .before .before .before .before .before .next-token .ensures) (c .before .before .before .before .before .before .before .before .before .before .before .before .before .before .before .before .before .before .before .before .before .before .before .before .before .st .given .1)) (c .before .before .before .before .before .before .before .before .before .before .before .before .before .before .before .before .before .before .before .before .before .if1 .left) (c .before .before .before .before .before .before .before .before .before .before .before .before .before .before .before .before .before .before .before .if2 .left) _ (found-is _ _ (sym (c .before .before .before .before .before .before .before .before .before .before .before .before .before .before .before .i .given .1) ∙ c .before .before .before .before .before .before .before .before .before .before .before .before .before .before .before .before .before .find-in .ensures)) (sym (c .before .before .before .before .before .before .before .before .before .before .before .before .if3 .left) ∙ c .before .before .before .before .before .before .before .before .before .before .before .before .before .is-again .ensures ∙ again-at _ _ _ _ _ _) _ _ _ (c .before .before .before .before .before .before .before .before .before .merge-field .ensures) _ (c .before .before .before .r .given .1) in
     omega (arith, lt, i)
 
 read-message-loop-again : (t : ℕ) → read-message-lts.Need-loop-again (
-  next-reads.Asked,
-  next-reads.Learnt,
+  next-token-reads.Asked,
+  next-token-reads.Learnt,
   bad-reads.Asked,
   bad-reads.Learnt,
   close-body-reads.Asked,
@@ -900,443 +900,395 @@ read-message-loop-again : (t : ℕ) → read-message-lts.Need-loop-again (
   has-value-reads.Asked,
   has-value-reads.Learnt,
 ) (read-message-at t) read-message.Post read-message-Inv-loop read-message-μ-loop
-read-message-loop-again t c = goes-on _ _ _ (c .before .before .before .before .before .before .before .before .before .before .before .before .before .before .before .before .before .before .before .before .before .before .before .before .before .before .before .before .before .before .before .before .before .args .w) _ _ _ _ _ _ _ (c .before .before .before .before .before .before .before .before .before .before .before .before .before .before .before .before .before .before .before .before .before .before .before .before .before .before .before .before .loop .inv) _ _ (scanned _ _ _ _ (c .before .before .before .before .before .before .before .before .before .before .before .before .before .before .before .before .before .before .before .before .before .before .before .before .before .before .before .next .ensures) (c .before .before .before .before .before .before .before .before .before .before .before .before .before .before .before .before .before .before .before .before .before .before .before .before .before .st .given .1)) (c .before .before .before .before .before .before .before .before .before .before .before .before .before .before .before .before .before .before .before .before .before .if1 .left) (c .before .before .before .before .before .before .before .before .before .before .before .before .before .before .before .before .before .before .before .if2 .left) _ (found-is _ _ (sym (c .before .before .before .before .before .before .before .before .before .before .before .before .before .before .before .i .given .1) ∙ c .before .before .before .before .before .before .before .before .before .before .before .before .before .before .before .before .before .find-in .ensures)) (sym (c .before .before .before .before .before .before .before .before .before .before .before .before .if3 .left) ∙ c .before .before .before .before .before .before .before .before .before .before .before .before .before .is-again .ensures ∙ again-at _ _ _ _ _ _) _ _ _ (c .before .before .before .before .before .before .before .before .before .merge-field .ensures) _ (c .before .before .before .r .given .1) (c .before .before .before .before .before .before .before .before .before .merge-field .kept .1 .1 .1 .1 .1 .1 .1 .1 .0) (c .before .before .before .before .before .before .before .before .before .merge-field .kept .1 .1 .1 .1 .1 .1 .1 .1 .1 .0) _ (stands _ _ _ _ _ _ (c .before .has-key .ensures _ _ _) (c .has-value .ensures _ _ _))
+read-message-loop-again t c = goes-on _ _ _ (c .before .before .before .before .before .before .before .before .before .before .before .before .before .before .before .before .before .before .before .before .before .before .before .before .before .before .before .before .before .before .before .before .before .args .w) _ _ _ _ _ _ _ (c .before .before .before .before .before .before .before .before .before .before .before .before .before .before .before .before .before .before .before .before .before .before .before .before .before .before .before .before .loop .inv) _ _ (scanned _ _ _ _ (c .before .before .before .before .before .before .before .before .before .before .before .before .before .before .before .before .before .before .before .before .before .before .before .before .before .before .before .next-token .ensures) (c .before .before .before .before .before .before .before .before .before .before .before .before .before .before .before .before .before .before .before .before .before .before .before .before .before .st .given .1)) (c .before .before .before .before .before .before .before .before .before .before .before .before .before .before .before .before .before .before .before .before .before .if1 .left) (c .before .before .before .before .before .before .before .before .before .before .before .before .before .before .before .before .before .before .before .if2 .left) _ (found-is _ _ (sym (c .before .before .before .before .before .before .before .before .before .before .before .before .before .before .before .i .given .1) ∙ c .before .before .before .before .before .before .before .before .before .before .before .before .before .before .before .before .before .find-in .ensures)) (sym (c .before .before .before .before .before .before .before .before .before .before .before .before .if3 .left) ∙ c .before .before .before .before .before .before .before .before .before .before .before .before .before .is-again .ensures ∙ again-at _ _ _ _ _ _) _ _ _ (c .before .before .before .before .before .before .before .before .before .merge-field .ensures) _ (c .before .before .before .r .given .1) (c .before .before .before .before .before .before .before .before .before .merge-field .kept .1 .1 .1 .1 .1 .1 .1 .1 .1 .0) (c .before .before .before .before .before .before .before .before .before .merge-field .kept .1 .1 .1 .1 .1 .1 .1 .1 .1 .1 .0) _ (stands _ _ _ _ _ _ (c .before .has-key .ensures _ _ _) (c .has-value .ensures _ _ _))
 
 read-value-of-type-read-colon-requires : (t : ℕ) → read-value-of-type-lts.Need-read-colon-requires (
   read-colon-reads.Asked,
   read-colon-reads.Learnt,
-  next-reads.Asked,
-  next-reads.Learnt,
+  next-token-reads.Asked,
+  next-token-reads.Learnt,
   bad-reads.Asked,
   bad-reads.Learnt,
   closer-of-reads.Asked,
   closer-of-reads.Learnt,
   read-message-below t,
   read-message.Post,
-  put-reads.Asked,
-  put-reads.Learnt,
+  put-body-reads.Asked,
+  put-body-reads.Learnt,
 ) (read-value-of-type-at t) read-value-of-type.Post
-read-value-of-type-read-colon-requires t c κs = (c .before .before .before .before .before .before .before .pre .1 .0, c .before .before .before .before .before .before .before .pre .1 .1, c .before .before .before .before .before .before .before .pre .1 .2, c .before .before .before .before .before .before .before .pre .1 .3, c .before .before .before .before .before .before .before .pre .1 .4)
+read-value-of-type-read-colon-requires t c κs = (c .before .before .before .before .before .before .before .before .pre .1 .0, c .before .before .before .before .before .before .before .before .pre .1 .1, c .before .before .before .before .before .before .before .before .pre .1 .2, c .before .before .before .before .before .before .before .before .pre .1 .3, c .before .before .before .before .before .before .before .before .pre .1 .4)
 
 read-value-of-type-same-length : (t : ℕ) → read-value-of-type-lts.Need-same-length (
   read-colon-reads.Asked,
   read-colon-reads.Learnt,
-  next-reads.Asked,
-  next-reads.Learnt,
+  next-token-reads.Asked,
+  next-token-reads.Learnt,
   bad-reads.Asked,
   bad-reads.Learnt,
   closer-of-reads.Asked,
   closer-of-reads.Learnt,
   read-message-below t,
   read-message.Post,
-  put-reads.Asked,
-  put-reads.Learnt,
+  put-body-reads.Asked,
+  put-body-reads.Learnt,
 ) (read-value-of-type-at t) read-value-of-type.Post
-read-value-of-type-same-length t c = c .before .before .before .before .read-colon .kept .1 .1 .1 .1 .1 .1 .0
+read-value-of-type-same-length t c = c .before .before .before .before .read-colon .kept .1 .1 .1 .1 .1 .1 .1 .0
 
 read-value-of-type-same-length-2 : (t : ℕ) → read-value-of-type-lts.Need-same-length-2 (
   read-colon-reads.Asked,
   read-colon-reads.Learnt,
-  next-reads.Asked,
-  next-reads.Learnt,
+  next-token-reads.Asked,
+  next-token-reads.Learnt,
   bad-reads.Asked,
   bad-reads.Learnt,
   closer-of-reads.Asked,
   closer-of-reads.Learnt,
   read-message-below t,
   read-message.Post,
-  put-reads.Asked,
-  put-reads.Learnt,
+  put-body-reads.Asked,
+  put-body-reads.Learnt,
 ) (read-value-of-type-at t) read-value-of-type.Post
-read-value-of-type-same-length-2 t c = c .before .before .before .before .read-colon .kept .1 .1 .1 .1 .1 .1 .1 .0
+read-value-of-type-same-length-2 t c = c .before .before .before .before .read-colon .kept .1 .1 .1 .1 .1 .1 .1 .1 .0
 
 read-value-of-type-returns : (t : ℕ) → read-value-of-type-lts.Need-returns (
   read-colon-reads.Asked,
   read-colon-reads.Learnt,
-  next-reads.Asked,
-  next-reads.Learnt,
+  next-token-reads.Asked,
+  next-token-reads.Learnt,
   bad-reads.Asked,
   bad-reads.Learnt,
   closer-of-reads.Asked,
   closer-of-reads.Learnt,
   read-message-below t,
   read-message.Post,
-  put-reads.Asked,
-  put-reads.Learnt,
+  put-body-reads.Asked,
+  put-body-reads.Learnt,
 ) (read-value-of-type-at t) read-value-of-type.Post
 read-value-of-type-returns t c = answers-by _ _ _ _ _ _ _ _ (field-plain _ _ _ _ _ (c .before .before .before .before .before .before .before .if1 .taken)) (c .before .before .before .before .read-colon .ensures)
 
-read-value-of-type-next-requires : (t : ℕ) → read-value-of-type-lts.Need-next-requires (
+read-value-of-type-next-token-requires : (t : ℕ) → read-value-of-type-lts.Need-next-token-requires (
   read-colon-reads.Asked,
   read-colon-reads.Learnt,
-  next-reads.Asked,
-  next-reads.Learnt,
+  next-token-reads.Asked,
+  next-token-reads.Learnt,
   bad-reads.Asked,
   bad-reads.Learnt,
   closer-of-reads.Asked,
   closer-of-reads.Learnt,
   read-message-below t,
   read-message.Post,
-  put-reads.Asked,
-  put-reads.Learnt,
+  put-body-reads.Asked,
+  put-body-reads.Learnt,
 ) (read-value-of-type-at t) read-value-of-type.Post
-read-value-of-type-next-requires t c κs = c .before .before .before .before .before .pre .1 .0
+read-value-of-type-next-token-requires t c κs = c .before .before .before .before .before .before .pre .1 .0 .0
 
 read-value-of-type-enum-known-st : (t : ℕ) → read-value-of-type-lts.Need-enum-known-st (
   read-colon-reads.Asked,
   read-colon-reads.Learnt,
-  next-reads.Asked,
-  next-reads.Learnt,
+  next-token-reads.Asked,
+  next-token-reads.Learnt,
   bad-reads.Asked,
   bad-reads.Learnt,
   closer-of-reads.Asked,
   closer-of-reads.Learnt,
   read-message-below t,
   read-message.Post,
-  put-reads.Asked,
-  put-reads.Learnt,
+  put-body-reads.Asked,
+  put-body-reads.Learnt,
 ) (read-value-of-type-at t) read-value-of-type.Post
 read-value-of-type-enum-known-st t c = search needs
 
 read-value-of-type-enum-told : (t : ℕ) → read-value-of-type-lts.Need-enum-told (
   read-colon-reads.Asked,
   read-colon-reads.Learnt,
-  next-reads.Asked,
-  next-reads.Learnt,
+  next-token-reads.Asked,
+  next-token-reads.Learnt,
   bad-reads.Asked,
   bad-reads.Learnt,
   closer-of-reads.Asked,
   closer-of-reads.Learnt,
   read-message-below t,
   read-message.Post,
-  put-reads.Asked,
-  put-reads.Learnt,
+  put-body-reads.Asked,
+  put-body-reads.Learnt,
 ) (read-value-of-type-at t) read-value-of-type.Post
 read-value-of-type-enum-told t c = search needs
 
 read-value-of-type-bad-requires : (t : ℕ) → read-value-of-type-lts.Need-bad-requires (
   read-colon-reads.Asked,
   read-colon-reads.Learnt,
-  next-reads.Asked,
-  next-reads.Learnt,
+  next-token-reads.Asked,
+  next-token-reads.Learnt,
   bad-reads.Asked,
   bad-reads.Learnt,
   closer-of-reads.Asked,
   closer-of-reads.Learnt,
   read-message-below t,
   read-message.Post,
-  put-reads.Asked,
-  put-reads.Learnt,
+  put-body-reads.Asked,
+  put-body-reads.Learnt,
 ) (read-value-of-type-at t) read-value-of-type.Post
 read-value-of-type-bad-requires t c κs = search needs
 
 read-value-of-type-returns-2 : (t : ℕ) → read-value-of-type-lts.Need-returns-2 (
   read-colon-reads.Asked,
   read-colon-reads.Learnt,
-  next-reads.Asked,
-  next-reads.Learnt,
+  next-token-reads.Asked,
+  next-token-reads.Learnt,
   bad-reads.Asked,
   bad-reads.Learnt,
   closer-of-reads.Asked,
   closer-of-reads.Learnt,
   read-message-below t,
   read-message.Post,
-  put-reads.Asked,
-  put-reads.Learnt,
+  put-body-reads.Asked,
+  put-body-reads.Learnt,
 ) (read-value-of-type-at t) read-value-of-type.Post
-read-value-of-type-returns-2 t c = no-answers _ _ _ _ _ _ _ _ _ (field-bad _ _ _ _ _ (c .before .before .before .before .if1 .left) (c .before .before .before .before .before .before .before .before .before .pre .1 .4 .most) _ (scanned-bad _ _ _ (c .before .before .before .next .ensures) (c .before .enum-told .given .1))) (bad-is _ _ _ (c .before .enum-told .given .1) (c .bad .ensures))
+read-value-of-type-returns-2 t c = no-answers _ _ _ _ _ _ _ _ _ (field-bad _ _ _ _ _ (c .before .before .before .before .if1 .left) (c .before .before .before .before .before .before .before .before .before .before .pre .1 .4 .most) _ (scanned-bad _ _ _ (c .before .before .before .next-token .ensures) (c .before .enum-told .given .1))) (bad-is _ _ _ (c .before .enum-told .given .1) (c .bad .ensures))
 
 read-value-of-type-closer-of-requires : (t : ℕ) → read-value-of-type-lts.Need-closer-of-requires (
   read-colon-reads.Asked,
   read-colon-reads.Learnt,
-  next-reads.Asked,
-  next-reads.Learnt,
+  next-token-reads.Asked,
+  next-token-reads.Learnt,
   bad-reads.Asked,
   bad-reads.Learnt,
   closer-of-reads.Asked,
   closer-of-reads.Learnt,
   read-message-below t,
   read-message.Post,
-  put-reads.Asked,
-  put-reads.Learnt,
+  put-body-reads.Asked,
+  put-body-reads.Learnt,
 ) (read-value-of-type-at t) read-value-of-type.Post
 read-value-of-type-closer-of-requires t c κs = search needs
 
 read-value-of-type-returns-3 : (t : ℕ) → read-value-of-type-lts.Need-returns-3 (
   read-colon-reads.Asked,
   read-colon-reads.Learnt,
-  next-reads.Asked,
-  next-reads.Learnt,
+  next-token-reads.Asked,
+  next-token-reads.Learnt,
   bad-reads.Asked,
   bad-reads.Learnt,
   closer-of-reads.Asked,
   closer-of-reads.Learnt,
   read-message-below t,
   read-message.Post,
-  put-reads.Asked,
-  put-reads.Learnt,
+  put-body-reads.Asked,
+  put-body-reads.Learnt,
 ) (read-value-of-type-at t) read-value-of-type.Post
-read-value-of-type-returns-3 t c = no-answers _ _ _ _ _ _ _ _ _ (field-other _ _ _ _ _ (c .before .before .before .before .before .before .before .if1 .left) (c .before .before .before .before .before .before .before .before .before .before .before .before .pre .1 .4 .most) _ _ (scanned _ _ _ _ (c .before .before .before .before .before .before .next .ensures) (c .before .before .before .before .st .given .1)) _ (c .before .closer-of .ensures) (c .if2 .taken)) refl
+read-value-of-type-returns-3 t c = no-answers _ _ _ _ _ _ _ _ _ (field-other _ _ _ _ _ (c .before .before .before .before .before .before .before .if1 .left) (c .before .before .before .before .before .before .before .before .before .before .before .before .before .pre .1 .4 .most) _ _ (scanned _ _ _ _ (c .before .before .before .before .before .before .next-token .ensures) (c .before .before .before .before .st .given .1)) _ (c .before .closer-of .ensures) (c .if2 .taken)) refl
 
 read-value-of-type-returns-4 : (t : ℕ) → read-value-of-type-lts.Need-returns-4 (
   read-colon-reads.Asked,
   read-colon-reads.Learnt,
-  next-reads.Asked,
-  next-reads.Learnt,
+  next-token-reads.Asked,
+  next-token-reads.Learnt,
   bad-reads.Asked,
   bad-reads.Learnt,
   closer-of-reads.Asked,
   closer-of-reads.Learnt,
   read-message-below t,
   read-message.Post,
-  put-reads.Asked,
-  put-reads.Learnt,
+  put-body-reads.Asked,
+  put-body-reads.Learnt,
 ) (read-value-of-type-at t) read-value-of-type.Post
-read-value-of-type-returns-4 t c = no-answers _ _ _ _ _ _ _ _ _ (field-deep _ _ _ _ _ (c .before .before .before .before .before .before .before .before .if1 .left) (c .before .before .before .before .before .before .before .before .before .before .before .before .before .pre .1 .4 .most) _ _ (scanned _ _ _ _ (c .before .before .before .before .before .before .before .next .ensures) (c .before .before .before .before .before .st .given .1)) _ (c .before .before .closer-of .ensures) (c .before .if2 .left) (c .if3 .taken)) refl
+read-value-of-type-returns-4 t c = no-answers _ _ _ _ _ _ _ _ _ (field-deep _ _ _ _ _ (c .before .before .before .before .before .before .before .before .if1 .left) (c .before .before .before .before .before .before .before .before .before .before .before .before .before .before .pre .1 .4 .most) _ _ (scanned _ _ _ _ (c .before .before .before .before .before .before .before .next-token .ensures) (c .before .before .before .before .before .st .given .1)) _ (c .before .before .closer-of .ensures) (c .before .if2 .left) (c .if3 .taken)) refl
 
 read-value-of-type-add-read-message : (t : ℕ) → read-value-of-type-lts.Need-add-read-message (
   read-colon-reads.Asked,
   read-colon-reads.Learnt,
-  next-reads.Asked,
-  next-reads.Learnt,
+  next-token-reads.Asked,
+  next-token-reads.Learnt,
   bad-reads.Asked,
   bad-reads.Learnt,
   closer-of-reads.Asked,
   closer-of-reads.Learnt,
   read-message-below t,
   read-message.Post,
-  put-reads.Asked,
-  put-reads.Learnt,
+  put-body-reads.Asked,
+  put-body-reads.Learnt,
 ) (read-value-of-type-at t) read-value-of-type.Post
-read-value-of-type-add-read-message t c = omega (arith, c .before .before .before .before .before .before .before .before .before .before .before .before .before .pre .1 .3 .node)
+read-value-of-type-add-read-message t c = omega (arith, c .before .before .before .before .before .before .before .before .before .before .before .before .before .before .before .pre .1 .3 .node)
 
 read-value-of-type-sub-read-message : (t : ℕ) → read-value-of-type-lts.Need-sub-read-message (
   read-colon-reads.Asked,
   read-colon-reads.Learnt,
-  next-reads.Asked,
-  next-reads.Learnt,
+  next-token-reads.Asked,
+  next-token-reads.Learnt,
   bad-reads.Asked,
   bad-reads.Learnt,
   closer-of-reads.Asked,
   closer-of-reads.Learnt,
   read-message-below t,
   read-message.Post,
-  put-reads.Asked,
-  put-reads.Learnt,
+  put-body-reads.Asked,
+  put-body-reads.Learnt,
 ) (read-value-of-type-at t) read-value-of-type.Post
-read-value-of-type-sub-read-message t c = omega (arith, c .if3 .left)
+read-value-of-type-sub-read-message t c = omega (arith, c .before .if3 .left)
 
 read-value-of-type-read-message-requires :
     (t : ℕ) → read-value-of-type-lts.Need-read-message-requires (
       read-colon-reads.Asked,
       read-colon-reads.Learnt,
-      next-reads.Asked,
-      next-reads.Learnt,
+      next-token-reads.Asked,
+      next-token-reads.Learnt,
       bad-reads.Asked,
       bad-reads.Learnt,
       closer-of-reads.Asked,
       closer-of-reads.Learnt,
       read-message-below t,
       read-message.Post,
-      put-reads.Asked,
-      put-reads.Learnt,
+      put-body-reads.Asked,
+      put-body-reads.Learnt,
     ) (read-value-of-type-at t) read-value-of-type.Post
 read-value-of-type-read-message-requires t c κs =
-    let lt = child-falls (c .before .before .before .before .before .before .before .before .before .before .before .before .before .before .before .args .left) (now (c .before .before .before .before .before .before .before .before .before .before .before .before .before .before .before .args .image)) (now (c .before .before .before .before .before .before .before .before .before .before .before .before .before .before .before .args .s)) (c .before .before .before .before .before .before .before .before .before .before .before .before .before .before .before .args .w) (c .before .before .before .before .before .before .before .before .before .before .before .before .before .before .before .args .q) (c .before .before .before .before .before .before .before .before .before .before .if1 .left) (c .before .before .before .before .before .before .before .before .before .before .before .before .before .before .before .pre .1 .4 .most) _ _ (scanned _ _ _ _ (c .before .before .before .before .before .before .before .before .before .next .ensures) (c .before .before .before .before .before .before .before .st .given .1)) _ (c .before .before .before .before .closer-of .ensures) (c .before .before .before .if2 .left) (c .before .before .if3 .left) (c .before .before .before .before .before .before .before .before .before .before .before .before .before .before .before .pre .1 .2) in
-    let fa = child-fair (c .before .before .before .before .before .before .before .before .before .before .before .before .before .before .before .args .left) (now (c .before .before .before .before .before .before .before .before .before .before .before .before .before .before .before .args .image)) (now (c .before .before .before .before .before .before .before .before .before .before .before .before .before .before .before .args .s)) (c .before .before .before .before .before .before .before .before .before .before .before .before .before .before .before .args .w) (c .before .before .before .before .before .before .before .before .before .before .before .before .before .before .before .args .q) (c .before .before .before .before .before .before .before .before .before .before .if1 .left) (c .before .before .before .before .before .before .before .before .before .before .before .before .before .before .before .pre .1 .4 .most) _ _ (scanned _ _ _ _ (c .before .before .before .before .before .before .before .before .before .next .ensures) (c .before .before .before .before .before .before .before .st .given .1)) _ (c .before .before .before .before .closer-of .ensures) (c .before .before .before .if2 .left) (c .before .before .if3 .left) (c .before .before .before .before .before .before .before .before .before .before .before .before .before .before .before .pre .1 .2) in
-    (omega (arith, c .before .before .before .before .before .before .before .before .before .before .before .before .before .before .before .pre .0, lt, fa .inside), (c .before .before .before .before .before .before .before .before .before .before .before .before .before .before .before .pre .1 .0, c .before .before .before .before .before .before .before .before .before .before .before .before .before .before .before .pre .1 .1, fa, c .before .before .before .before .before .before .before .before .before .before .before .before .before .before .before .pre .1 .4, nests-high _ (c .before .before .before .before .before .before .before .before .before .before .if1 .left) (c .before .before .before .before .before .before .before .before .before .before .before .before .before .before .before .pre .1 .4 .most)))
+    let lt = child-falls (c .before .before .before .before .before .before .before .before .before .before .before .before .before .before .before .before .before .args .left) (now (c .before .before .before .before .before .before .before .before .before .before .before .before .before .before .before .before .before .args .image)) (now (c .before .before .before .before .before .before .before .before .before .before .before .before .before .before .before .before .before .args .s)) (c .before .before .before .before .before .before .before .before .before .before .before .before .before .before .before .before .before .args .w) (c .before .before .before .before .before .before .before .before .before .before .before .before .before .before .before .before .before .args .q) (c .before .before .before .before .before .before .before .before .before .before .before .if1 .left) (c .before .before .before .before .before .before .before .before .before .before .before .before .before .before .before .before .before .pre .1 .4 .most) _ _ (scanned _ _ _ _ (c .before .before .before .before .before .before .before .before .before .before .next-token .ensures) (c .before .before .before .before .before .before .before .before .st .given .1)) _ (c .before .before .before .before .before .closer-of .ensures) (c .before .before .before .before .if2 .left) (c .before .before .before .if3 .left) (c .before .before .before .before .before .before .before .before .before .before .before .before .before .before .before .before .before .pre .1 .2) in
+    let fa = child-fair (c .before .before .before .before .before .before .before .before .before .before .before .before .before .before .before .before .before .args .left) (now (c .before .before .before .before .before .before .before .before .before .before .before .before .before .before .before .before .before .args .image)) (now (c .before .before .before .before .before .before .before .before .before .before .before .before .before .before .before .before .before .args .s)) (c .before .before .before .before .before .before .before .before .before .before .before .before .before .before .before .before .before .args .w) (c .before .before .before .before .before .before .before .before .before .before .before .before .before .before .before .before .before .args .q) (c .before .before .before .before .before .before .before .before .before .before .before .if1 .left) (c .before .before .before .before .before .before .before .before .before .before .before .before .before .before .before .before .before .pre .1 .4 .most) _ _ (scanned _ _ _ _ (c .before .before .before .before .before .before .before .before .before .before .next-token .ensures) (c .before .before .before .before .before .before .before .before .st .given .1)) _ (c .before .before .before .before .before .closer-of .ensures) (c .before .before .before .before .if2 .left) (c .before .before .before .if3 .left) (c .before .before .before .before .before .before .before .before .before .before .before .before .before .before .before .before .before .pre .1 .2) in
+    (omega (arith, c .before .before .before .before .before .before .before .before .before .before .before .before .before .before .before .before .before .pre .0, lt, fa .inside), (c .before .before .before .before .before .before .before .before .before .before .before .before .before .before .before .before .before .pre .1 .0, c .before .before .before .before .before .before .before .before .before .before .before .before .before .before .before .before .before .pre .1 .1, fa, c .before .before .before .before .before .before .before .before .before .before .before .before .before .before .before .before .before .pre .1 .4, nests-high _ (c .before .before .before .before .before .before .before .before .before .before .before .if1 .left) (c .before .before .before .before .before .before .before .before .before .before .before .before .before .before .before .before .before .pre .1 .4 .most)))
 
 read-value-of-type-enum-known-r : (t : ℕ) → read-value-of-type-lts.Need-enum-known-r (
   read-colon-reads.Asked,
   read-colon-reads.Learnt,
-  next-reads.Asked,
-  next-reads.Learnt,
+  next-token-reads.Asked,
+  next-token-reads.Learnt,
   bad-reads.Asked,
   bad-reads.Learnt,
   closer-of-reads.Asked,
   closer-of-reads.Learnt,
   read-message-below t,
   read-message.Post,
-  put-reads.Asked,
-  put-reads.Learnt,
+  put-body-reads.Asked,
+  put-body-reads.Learnt,
 ) (read-value-of-type-at t) read-value-of-type.Post
 read-value-of-type-enum-known-r t c = search needs
 
 read-value-of-type-enum-told-2 : (t : ℕ) → read-value-of-type-lts.Need-enum-told-2 (
   read-colon-reads.Asked,
   read-colon-reads.Learnt,
-  next-reads.Asked,
-  next-reads.Learnt,
+  next-token-reads.Asked,
+  next-token-reads.Learnt,
   bad-reads.Asked,
   bad-reads.Learnt,
   closer-of-reads.Asked,
   closer-of-reads.Learnt,
   read-message-below t,
   read-message.Post,
-  put-reads.Asked,
-  put-reads.Learnt,
+  put-body-reads.Asked,
+  put-body-reads.Learnt,
 ) (read-value-of-type-at t) read-value-of-type.Post
 read-value-of-type-enum-told-2 t c = search needs
 
 read-value-of-type-same-length-3 : (t : ℕ) → read-value-of-type-lts.Need-same-length-3 (
   read-colon-reads.Asked,
   read-colon-reads.Learnt,
-  next-reads.Asked,
-  next-reads.Learnt,
+  next-token-reads.Asked,
+  next-token-reads.Learnt,
   bad-reads.Asked,
   bad-reads.Learnt,
   closer-of-reads.Asked,
   closer-of-reads.Learnt,
   read-message-below t,
   read-message.Post,
-  put-reads.Asked,
-  put-reads.Learnt,
+  put-body-reads.Asked,
+  put-body-reads.Learnt,
 ) (read-value-of-type-at t) read-value-of-type.Post
-read-value-of-type-same-length-3 t c = c .before .before .before .before .before .before .read-message .kept .1 .1 .1 .1 .1 .1 .1 .1 .0
+read-value-of-type-same-length-3 t c = c .before .before .before .before .before .before .read-message .kept .1 .1 .1 .1 .1 .1 .1 .1 .1 .0
 
 read-value-of-type-same-length-4 : (t : ℕ) → read-value-of-type-lts.Need-same-length-4 (
   read-colon-reads.Asked,
   read-colon-reads.Learnt,
-  next-reads.Asked,
-  next-reads.Learnt,
+  next-token-reads.Asked,
+  next-token-reads.Learnt,
   bad-reads.Asked,
   bad-reads.Learnt,
   closer-of-reads.Asked,
   closer-of-reads.Learnt,
   read-message-below t,
   read-message.Post,
-  put-reads.Asked,
-  put-reads.Learnt,
+  put-body-reads.Asked,
+  put-body-reads.Learnt,
 ) (read-value-of-type-at t) read-value-of-type.Post
-read-value-of-type-same-length-4 t c = c .before .before .before .before .before .before .read-message .kept .1 .1 .1 .1 .1 .1 .1 .1 .1 .0
+read-value-of-type-same-length-4 t c = c .before .before .before .before .before .before .read-message .kept .1 .1 .1 .1 .1 .1 .1 .1 .1 .1 .0
 
 read-value-of-type-returns-5 : (t : ℕ) → read-value-of-type-lts.Need-returns-5 (
   read-colon-reads.Asked,
   read-colon-reads.Learnt,
-  next-reads.Asked,
-  next-reads.Learnt,
+  next-token-reads.Asked,
+  next-token-reads.Learnt,
   bad-reads.Asked,
   bad-reads.Learnt,
   closer-of-reads.Asked,
   closer-of-reads.Learnt,
   read-message-below t,
   read-message.Post,
-  put-reads.Asked,
-  put-reads.Learnt,
+  put-body-reads.Asked,
+  put-body-reads.Learnt,
 ) (read-value-of-type-at t) read-value-of-type.Post
-read-value-of-type-returns-5 t c = nested-no _ _ _ (c .before .before .before .before .before .before .before .before .before .before .before .before .before .before .before .before .before .before .before .before .before .before .args .w) (c .before .before .before .before .before .before .before .before .before .before .before .before .before .before .before .before .before .before .before .before .before .before .args .q) (c .before .before .before .before .before .before .before .before .before .before .before .before .before .before .before .before .before .if1 .left) (c .before .before .before .before .before .before .before .before .before .before .before .before .before .before .before .before .before .before .before .before .before .before .pre .1 .4 .most) _ _ (scanned _ _ _ _ (c .before .before .before .before .before .before .before .before .before .before .before .before .before .before .before .before .next .ensures) (c .before .before .before .before .before .before .before .before .before .before .before .before .before .before .st .given .1)) _ (c .before .before .before .before .before .before .before .before .before .before .before .closer-of .ensures) (c .before .before .before .before .before .before .before .before .before .before .if2 .left) (c .before .before .before .before .before .before .before .before .before .if3 .left) (c .before .before .before .before .before .before .before .before .before .before .before .before .before .before .before .before .before .before .before .before .before .before .pre .1 .2) _ _ _ _ _ (c .before .before .before .before .before .before .read-message .ensures) _ _ (c .enum-told2 .given .1)
+read-value-of-type-returns-5 t c = nested-no _ _ _ (c .before .before .before .before .before .before .before .before .before .before .before .before .before .before .before .before .before .before .before .before .before .before .before .before .args .w) (c .before .before .before .before .before .before .before .before .before .before .before .before .before .before .before .before .before .before .before .before .before .before .before .before .args .q) (c .before .before .before .before .before .before .before .before .before .before .before .before .before .before .before .before .before .before .if1 .left) (c .before .before .before .before .before .before .before .before .before .before .before .before .before .before .before .before .before .before .before .before .before .before .before .before .pre .1 .4 .most) _ _ (scanned _ _ _ _ (c .before .before .before .before .before .before .before .before .before .before .before .before .before .before .before .before .before .next-token .ensures) (c .before .before .before .before .before .before .before .before .before .before .before .before .before .before .before .st .given .1)) _ (c .before .before .before .before .before .before .before .before .before .before .before .before .closer-of .ensures) (c .before .before .before .before .before .before .before .before .before .before .before .if2 .left) (c .before .before .before .before .before .before .before .before .before .before .if3 .left) (c .before .before .before .before .before .before .before .before .before .before .before .before .before .before .before .before .before .before .before .before .before .before .before .before .pre .1 .2) _ _ _ _ _ (c .before .before .before .before .before .before .read-message .ensures) _ _ (c .enum-told2 .given .1)
 
-read-value-of-type-cast-t34 : (t : ℕ) → read-value-of-type-lts.Need-cast-t34 (
+read-value-of-type-put-body-requires : (t : ℕ) → read-value-of-type-lts.Need-put-body-requires (
   read-colon-reads.Asked,
   read-colon-reads.Learnt,
-  next-reads.Asked,
-  next-reads.Learnt,
+  next-token-reads.Asked,
+  next-token-reads.Learnt,
   bad-reads.Asked,
   bad-reads.Learnt,
   closer-of-reads.Asked,
   closer-of-reads.Learnt,
   read-message-below t,
   read-message.Post,
-  put-reads.Asked,
-  put-reads.Learnt,
+  put-body-reads.Asked,
+  put-body-reads.Learnt,
 ) (read-value-of-type-at t) read-value-of-type.Post
-read-value-of-type-cast-t34 t c = omega (arith, c .before .before .before .before .before .before .before .before .before .before .before .before .before .before .before .before .before .before .before .before .before .before .before .before .pre .1 .4 .most)
-
-read-value-of-type-cast-t35 : (t : ℕ) → read-value-of-type-lts.Need-cast-t35 (
-  read-colon-reads.Asked,
-  read-colon-reads.Learnt,
-  next-reads.Asked,
-  next-reads.Learnt,
-  bad-reads.Asked,
-  bad-reads.Learnt,
-  closer-of-reads.Asked,
-  closer-of-reads.Learnt,
-  read-message-below t,
-  read-message.Post,
-  put-reads.Asked,
-  put-reads.Learnt,
-) (read-value-of-type-at t) read-value-of-type.Post
-read-value-of-type-cast-t35 t c = omega (arith, c .before .before .before .before .before .before .before .before .before .before .before .before .before .before .before .before .before .before .before .before .before .before .before .before .before .pre .1 .3 .field)
-
-read-value-of-type-cast-t36 : (t : ℕ) → read-value-of-type-lts.Need-cast-t36 (
-  read-colon-reads.Asked,
-  read-colon-reads.Learnt,
-  next-reads.Asked,
-  next-reads.Learnt,
-  bad-reads.Asked,
-  bad-reads.Learnt,
-  closer-of-reads.Asked,
-  closer-of-reads.Learnt,
-  read-message-below t,
-  read-message.Post,
-  put-reads.Asked,
-  put-reads.Learnt,
-) (read-value-of-type-at t) read-value-of-type.Post
-read-value-of-type-cast-t36 t c = let z = nested-node _ _ _ (c .before .before .before .before .before .before .before .before .before .before .before .before .before .before .before .before .before .before .before .before .before .before .before .before .before .before .args .w) (c .before .before .before .before .before .before .before .before .before .before .before .before .before .before .before .before .before .before .before .before .before .before .before .before .before .before .args .q) (c .before .before .before .before .before .before .before .before .before .before .before .before .before .before .before .before .before .before .before .before .before .if1 .left) (c .before .before .before .before .before .before .before .before .before .before .before .before .before .before .before .before .before .before .before .before .before .before .before .before .before .before .pre .1 .4 .most) _ _ (scanned _ _ _ _ (c .before .before .before .before .before .before .before .before .before .before .before .before .before .before .before .before .before .before .before .before .next .ensures) (c .before .before .before .before .before .before .before .before .before .before .before .before .before .before .before .before .before .before .st .given .1)) _ (c .before .before .before .before .before .before .before .before .before .before .before .before .before .before .before .closer-of .ensures) (c .before .before .before .before .before .before .before .before .before .before .before .before .before .before .if2 .left) (c .before .before .before .before .before .before .before .before .before .before .before .before .before .if3 .left) (c .before .before .before .before .before .before .before .before .before .before .before .before .before .before .before .before .before .before .before .before .before .before .before .before .before .before .pre .1 .2) _ _ _ _ _ (c .before .before .before .before .before .before .before .before .before .before .read-message .ensures) _ (c .before .before .before .before .r .given .1) in omega (arith, z)
-
-read-value-of-type-put-requires : (t : ℕ) → read-value-of-type-lts.Need-put-requires (
-  read-colon-reads.Asked,
-  read-colon-reads.Learnt,
-  next-reads.Asked,
-  next-reads.Learnt,
-  bad-reads.Asked,
-  bad-reads.Learnt,
-  closer-of-reads.Asked,
-  closer-of-reads.Learnt,
-  read-message-below t,
-  read-message.Post,
-  put-reads.Asked,
-  put-reads.Learnt,
-) (read-value-of-type-at t) read-value-of-type.Post
-read-value-of-type-put-requires t c κs = search needs
+read-value-of-type-put-body-requires t c κs = let z = nested-node _ _ _ (c .before .before .before .before .before .before .before .before .before .before .before .before .before .before .before .before .before .before .before .before .before .before .before .before .before .before .args .w) (c .before .before .before .before .before .before .before .before .before .before .before .before .before .before .before .before .before .before .before .before .before .before .before .before .before .before .args .q) (c .before .before .before .before .before .before .before .before .before .before .before .before .before .before .before .before .before .before .before .before .if1 .left) (c .before .before .before .before .before .before .before .before .before .before .before .before .before .before .before .before .before .before .before .before .before .before .before .before .before .before .pre .1 .4 .most) _ _ (scanned _ _ _ _ (c .before .before .before .before .before .before .before .before .before .before .before .before .before .before .before .before .before .before .before .next-token .ensures) (c .before .before .before .before .before .before .before .before .before .before .before .before .before .before .before .before .before .st .given .1)) _ (c .before .before .before .before .before .before .before .before .before .before .before .before .before .before .closer-of .ensures) (c .before .before .before .before .before .before .before .before .before .before .before .before .before .if2 .left) (c .before .before .before .before .before .before .before .before .before .before .before .before .if3 .left) (c .before .before .before .before .before .before .before .before .before .before .before .before .before .before .before .before .before .before .before .before .before .before .before .before .before .before .pre .1 .2) _ _ _ _ _ (c .before .before .before .before .before .before .before .before .read-message .ensures) _ (c .before .before .r .given .1) in (c .before .before .before .before .before .before .before .before .before .before .before .before .before .before .before .before .before .before .before .before .before .before .before .before .before .before .pre .1 .3 .field, omega (arith, z))
 
 read-value-of-type-same-length-5 : (t : ℕ) → read-value-of-type-lts.Need-same-length-5 (
   read-colon-reads.Asked,
   read-colon-reads.Learnt,
-  next-reads.Asked,
-  next-reads.Learnt,
+  next-token-reads.Asked,
+  next-token-reads.Learnt,
   bad-reads.Asked,
   bad-reads.Learnt,
   closer-of-reads.Asked,
   closer-of-reads.Learnt,
   read-message-below t,
   read-message.Post,
-  put-reads.Asked,
-  put-reads.Learnt,
+  put-body-reads.Asked,
+  put-body-reads.Learnt,
 ) (read-value-of-type-at t) read-value-of-type.Post
-read-value-of-type-same-length-5 t c = c .before .before .put .kept .0 ∙ c .before .before .before .before .before .before .before .before .before .before .before .before .before .read-message .kept .1 .1 .1 .1 .1 .1 .1 .1 .0
+read-value-of-type-same-length-5 t c = c .before .before .put-body .kept .0 ∙ c .before .before .before .before .before .before .before .before .before .before .before .read-message .kept .1 .1 .1 .1 .1 .1 .1 .1 .1 .0
 
 read-value-of-type-same-length-6 : (t : ℕ) → read-value-of-type-lts.Need-same-length-6 (
   read-colon-reads.Asked,
   read-colon-reads.Learnt,
-  next-reads.Asked,
-  next-reads.Learnt,
+  next-token-reads.Asked,
+  next-token-reads.Learnt,
   bad-reads.Asked,
   bad-reads.Learnt,
   closer-of-reads.Asked,
   closer-of-reads.Learnt,
   read-message-below t,
   read-message.Post,
-  put-reads.Asked,
-  put-reads.Learnt,
+  put-body-reads.Asked,
+  put-body-reads.Learnt,
 ) (read-value-of-type-at t) read-value-of-type.Post
-read-value-of-type-same-length-6 t c = c .before .before .before .before .before .before .before .before .before .before .before .before .before .read-message .kept .1 .1 .1 .1 .1 .1 .1 .1 .1 .0
+read-value-of-type-same-length-6 t c = c .before .before .before .before .before .before .before .before .before .before .before .read-message .kept .1 .1 .1 .1 .1 .1 .1 .1 .1 .1 .0
 
 read-value-of-type-returns-6 : (t : ℕ) → read-value-of-type-lts.Need-returns-6 (
   read-colon-reads.Asked,
   read-colon-reads.Learnt,
-  next-reads.Asked,
-  next-reads.Learnt,
+  next-token-reads.Asked,
+  next-token-reads.Learnt,
   bad-reads.Asked,
   bad-reads.Learnt,
   closer-of-reads.Asked,
   closer-of-reads.Learnt,
   read-message-below t,
   read-message.Post,
-  put-reads.Asked,
-  put-reads.Learnt,
+  put-body-reads.Asked,
+  put-body-reads.Learnt,
 ) (read-value-of-type-at t) read-value-of-type.Post
-read-value-of-type-returns-6 t c = nested-put _ _ _ (c .before .before .before .before .before .before .before .before .before .before .before .before .before .before .before .before .before .before .before .before .before .before .before .before .before .before .before .before .before .args .w) (c .before .before .before .before .before .before .before .before .before .before .before .before .before .before .before .before .before .before .before .before .before .before .before .before .before .before .before .before .before .args .q) (c .before .before .before .before .before .before .before .before .before .before .before .before .before .before .before .before .before .before .before .before .before .before .before .before .if1 .left) (c .before .before .before .before .before .before .before .before .before .before .before .before .before .before .before .before .before .before .before .before .before .before .before .before .before .before .before .before .before .pre .1 .4 .most) _ _ (scanned _ _ _ _ (c .before .before .before .before .before .before .before .before .before .before .before .before .before .before .before .before .before .before .before .before .before .before .before .next .ensures) (c .before .before .before .before .before .before .before .before .before .before .before .before .before .before .before .before .before .before .before .before .before .st .given .1)) _ (c .before .before .before .before .before .before .before .before .before .before .before .before .before .before .before .before .before .before .closer-of .ensures) (c .before .before .before .before .before .before .before .before .before .before .before .before .before .before .before .before .before .if2 .left) (c .before .before .before .before .before .before .before .before .before .before .before .before .before .before .before .before .if3 .left) (c .before .before .before .before .before .before .before .before .before .before .before .before .before .before .before .before .before .before .before .before .before .before .before .before .before .before .before .before .before .pre .1 .2) _ _ _ _ _ (c .before .before .before .before .before .before .before .before .before .before .before .before .before .read-message .ensures) _ (c .before .before .before .before .before .before .before .r .given .1) (c .before .before .before .before .before .before .before .before .before .before .before .before .before .read-message .kept .1 .1 .1 .1 .1 .1 .1 .1 .0) _ (c .before .before .put .ensures)
+read-value-of-type-returns-6 t c = nested-put _ _ _ (c .before .before .before .before .before .before .before .before .before .before .before .before .before .before .before .before .before .before .before .before .before .before .before .before .before .before .before .before .before .args .w) (c .before .before .before .before .before .before .before .before .before .before .before .before .before .before .before .before .before .before .before .before .before .before .before .before .before .before .before .before .before .args .q) (c .before .before .before .before .before .before .before .before .before .before .before .before .before .before .before .before .before .before .before .before .before .before .before .if1 .left) (c .before .before .before .before .before .before .before .before .before .before .before .before .before .before .before .before .before .before .before .before .before .before .before .before .before .before .before .before .before .pre .1 .4 .most) _ _ (scanned _ _ _ _ (c .before .before .before .before .before .before .before .before .before .before .before .before .before .before .before .before .before .before .before .before .before .before .next-token .ensures) (c .before .before .before .before .before .before .before .before .before .before .before .before .before .before .before .before .before .before .before .before .st .given .1)) _ (c .before .before .before .before .before .before .before .before .before .before .before .before .before .before .before .before .before .closer-of .ensures) (c .before .before .before .before .before .before .before .before .before .before .before .before .before .before .before .before .if2 .left) (c .before .before .before .before .before .before .before .before .before .before .before .before .before .before .before .if3 .left) (c .before .before .before .before .before .before .before .before .before .before .before .before .before .before .before .before .before .before .before .before .before .before .before .before .before .before .before .before .before .pre .1 .2) _ _ _ _ _ (c .before .before .before .before .before .before .before .before .before .before .before .read-message .ensures) _ (c .before .before .before .before .before .r .given .1) (c .before .before .before .before .before .before .before .before .before .before .before .read-message .kept .1 .1 .1 .1 .1 .1 .1 .1 .1 .0) _ (c .before .before .put-body .ensures)
 
 pub +merge-field+read-message+read-value-of-type-spec : {M : Type 1} → statement M
 +merge-field+read-message+read-value-of-type-spec =
@@ -1354,8 +1306,8 @@ pub +merge-field+read-message+read-value-of-type-spec : {M : Type 1} → stateme
     (merge-field-same-length-2 t)
     (merge-field-returns t))
     (λ t. read-message-lts.spec (
-      next-reads.Asked,
-      next-reads.Learnt,
+      next-token-reads.Asked,
+      next-token-reads.Learnt,
       bad-reads.Asked,
       bad-reads.Learnt,
       close-body-reads.Asked,
@@ -1376,7 +1328,7 @@ pub +merge-field+read-message+read-value-of-type-spec : {M : Type 1} → stateme
     read-message-Inv-loop
     read-message-μ-loop
     (read-message-loop-holds t)
-    (read-message-next-requires t)
+    (read-message-next-token-requires t)
     (read-message-enum-known-st t)
     (read-message-enum-told t)
     (read-message-bad-requires t)
@@ -1416,16 +1368,16 @@ pub +merge-field+read-message+read-value-of-type-spec : {M : Type 1} → stateme
     λ t. read-value-of-type-lts.spec (
       read-colon-reads.Asked,
       read-colon-reads.Learnt,
-      next-reads.Asked,
-      next-reads.Learnt,
+      next-token-reads.Asked,
+      next-token-reads.Learnt,
       bad-reads.Asked,
       bad-reads.Learnt,
       closer-of-reads.Asked,
       closer-of-reads.Learnt,
       read-message-below t,
       read-message.Post,
-      put-reads.Asked,
-      put-reads.Learnt,
+      put-body-reads.Asked,
+      put-body-reads.Learnt,
     )
     (read-value-of-type-at t)
     read-value-of-type.Post
@@ -1433,7 +1385,7 @@ pub +merge-field+read-message+read-value-of-type-spec : {M : Type 1} → stateme
     (read-value-of-type-same-length t)
     (read-value-of-type-same-length-2 t)
     (read-value-of-type-returns t)
-    (read-value-of-type-next-requires t)
+    (read-value-of-type-next-token-requires t)
     (read-value-of-type-enum-known-st t)
     (read-value-of-type-enum-told t)
     (read-value-of-type-bad-requires t)
@@ -1449,10 +1401,7 @@ pub +merge-field+read-message+read-value-of-type-spec : {M : Type 1} → stateme
     (read-value-of-type-same-length-3 t)
     (read-value-of-type-same-length-4 t)
     (read-value-of-type-returns-5 t)
-    (read-value-of-type-cast-t34 t)
-    (read-value-of-type-cast-t35 t)
-    (read-value-of-type-cast-t36 t)
-    (read-value-of-type-put-requires t)
+    (read-value-of-type-put-body-requires t)
     (read-value-of-type-same-length-5 t)
     (read-value-of-type-same-length-6 t)
     (read-value-of-type-returns-6 t)

@@ -4,16 +4,9 @@ use Rattle.parse.proofs.Steps.{scalar-signed, scalar-unsigned, scalar-b
 use borrow.Author.Needs.{needs}
 use Rattle.parse.proofs.read_scalar.Statement.{statement}
 use Rattle.parse.proofs.read_scalar.Tie as tie
-use Rattle.parse.proofs.read_scalar.Reads as reads
-use Rattle.parse.proofs.read_scalar.Lts as lts
-use Rattle.parse.proofs.read_bool.Reads as read-bool-reads
-use Rattle.parse.proofs.read_enum.Reads as read-enum-reads
-use Rattle.parse.proofs.read_signed.Reads as read-signed-reads
-use Rattle.parse.proofs.read_string.Reads as read-string-reads
-use Rattle.parse.proofs.read_unsigned.Reads as read-unsigned-reads
 
 read-signed-requires : tie.Need-read-signed-requires
-read-signed-requires c κs = search needs
+read-signed-requires c κs = (c .before .before .before .before .before .before .pre .0 .0, c .before .before .before .before .before .before .pre .2, c .before .before .before .before .before .before .pre .3)
 
 same-length : tie.Need-same-length
 same-length c = search needs
@@ -22,7 +15,7 @@ returns : tie.Need-returns
 returns c = answers-by _ _ _ _ _ _ _ _ (scalar-signed _ _ _ _ (c .before .before .before .before .before .before .before .before .before .pre .4 .least) (c .before .before .before .before .if1 .taken)) (c .before .before .read-signed .ensures _)
 
 read-unsigned-requires : tie.Need-read-unsigned-requires
-read-unsigned-requires c κs = search needs
+read-unsigned-requires c κs = (c .before .before .before .before .before .before .before .pre .0 .0, c .before .before .before .before .before .before .before .pre .2, c .before .before .before .before .before .before .before .pre .3)
 
 same-length-2 : tie.Need-same-length-2
 same-length-2 c = search needs
@@ -31,7 +24,7 @@ returns-2 : tie.Need-returns-2
 returns-2 c = answers-by _ _ _ _ _ _ _ _ (scalar-unsigned _ _ _ _ (c .before .before .before .before .before .if1 .left) (c .before .before .before .before .if2 .taken)) (c .before .before .read-unsigned .ensures _)
 
 read-bool-requires : tie.Need-read-bool-requires
-read-bool-requires c κs = search needs
+read-bool-requires c κs = (c .before .before .before .before .before .before .before .before .pre .0 .0, c .before .before .before .before .before .before .before .before .pre .2, c .before .before .before .before .before .before .before .before .pre .3)
 
 same-length-3 : tie.Need-same-length-3
 same-length-3 c = search needs
@@ -40,7 +33,7 @@ returns-3 : tie.Need-returns-3
 returns-3 c = answers-by _ _ _ _ _ _ _ _ (scalar-bool _ _ _ _ (c .before .before .before .before .if3 .taken)) (c .before .before .read-bool .ensures _)
 
 read-enum-requires : tie.Need-read-enum-requires
-read-enum-requires c κs = search needs
+read-enum-requires c κs = (c .before .before .before .before .before .before .before .before .before .pre .0 .0, c .before .before .before .before .before .before .before .before .before .pre .1, c .before .before .before .before .before .before .before .before .before .pre .2, c .before .before .before .before .before .before .before .before .before .pre .3, c .before .before .before .before .before .before .before .before .before .pre .4, c .before .if4 .taken)
 
 same-length-4 : tie.Need-same-length-4
 same-length-4 c = search needs
@@ -49,7 +42,7 @@ returns-4 : tie.Need-returns-4
 returns-4 c = answers-by _ _ _ _ _ _ _ _ (scalar-enum _ _ _ _ (c .before .before .before .before .if4 .taken)) (c .before .before .read-enum .ensures _)
 
 read-string-requires : tie.Need-read-string-requires
-read-string-requires c κs = search needs
+read-string-requires c κs = (c .before .before .before .before .before .before .before .before .before .before .pre .0, c .before .before .before .before .before .before .before .before .before .before .pre .2, c .before .before .before .before .before .before .before .before .before .before .pre .3)
 
 same-length-5 : tie.Need-same-length-5
 same-length-5 c = search needs

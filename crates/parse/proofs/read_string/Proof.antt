@@ -13,16 +13,9 @@ use Rattle.lexer.proofs.Decoding.{decodedFront-all}
 use borrow.Author.Needs.{needs}
 use Rattle.parse.proofs.read_string.Statement.{statement}
 use Rattle.parse.proofs.read_string.Tie as tie
-use Rattle.parse.proofs.read_string.Reads as reads
-use Rattle.parse.proofs.read_string.Lts as lts
-use Rattle.parse.proofs.bad.Reads as bad-reads
-use Rattle.parse.proofs.is_broken.Reads as is-broken-reads
-use Rattle.lexer.proofs.tokens.Cursor.next.Reads as next-reads
-use Rattle.lexer.proofs.strings.decode.Reads as decode-reads
-use Rattle.parse.proofs.put.Reads as put-reads
 
 next-requires : tie.Need-next-requires
-next-requires c κs = search needs
+next-requires c κs = c .before .before .before .pre .0 .0
 
 enum-known-st : tie.Need-enum-known-st
 enum-known-st c = search needs
@@ -58,7 +51,7 @@ decode-requires : tie.Need-decode-requires
 decode-requires c κs =
     let z = reach _ _ _ _ (c .before .before .before .before .before .before .before .before .before .before .before .before .before .before .pre .1 .inside) (scanned _ _ _ _ (c .before .before .before .before .before .before .before .before .before .before .next .ensures) (c .before .before .before .before .before .before .before .before .st .given .1)) in
     let p = part-le (now (c .before .before .before .before .before .before .before .before .before .before .before .before .before .before .args .s)) (c .before .before .before .before .before .before .before .before .st .given .0 .0 .start .offset + 1) (c .before .before .before .before .before .before .before .before .st .given .0 .1 .0 .at - 1) in
-    omega (arith, p, z .quotes (c .before .before .before .before .if1 .left), z .within, c .before .before .before .before .before .before .before .before .before .before .before .before .before .before .pre .1 .short, c .before .before .before .before .before .before .before .before .before .before .before .before .before .before .pre .2 .byte)
+    (c .before .before .before .before .before .before .before .before .before .before .before .before .before .before .pre .0 .1, omega (arith, p, z .quotes (c .before .before .before .before .if1 .left), z .within, c .before .before .before .before .before .before .before .before .before .before .before .before .before .before .pre .1 .short, c .before .before .before .before .before .before .before .before .before .before .before .before .before .before .pre .2 .byte))
 
 enum-known-count : tie.Need-enum-known-count
 enum-known-count c = search needs
@@ -83,35 +76,35 @@ returns-4 c =
     let d = decoded-is _ _ _ (sym (c .before .before .before .count .given .1) ∙ c .before .before .before .before .before .before .before .decode .ensures .0) in
     no-answers _ _ _ _ _ _ _ _ _ (string-broken _ _ _ _ _ (scanned _ _ _ _ (c .before .before .before .before .before .before .before .before .before .before .before .before .before .before .before .before .before .before .next .ensures) (c .before .before .before .before .before .before .before .before .before .before .before .before .before .before .before .before .st .given .1)) (c .before .before .before .before .before .before .before .before .before .before .before .before .if1 .left) (d .0) (d .1) (broken-by _ (eqb (c .before .before .before .before .before .before .before .before .before .before .before .before .before .before .before .before .before .before .before .before .before .before .args .w .kind) string) _ _ (sym (c .if2 .taken) ∙ c .before .is-broken .ensures) (d .3))) refl
 
-cast-t30 : tie.Need-cast-t30
-cast-t30 c = search needs
-
 cast-t31 : tie.Need-cast-t31
-cast-t31 c = omega (arith, c .before .before .before .before .before .before .before .before .before .before .before .before .before .before .before .before .before .before .before .before .before .before .before .before .before .pre .2 .field)
+cast-t31 c = search needs
 
 cast-t32 : tie.Need-cast-t32
-cast-t32 c = omega (arith, c .before .before .before .before .before .before .before .before .before .before .before .before .before .before .before .before .before .before .before .before .before .before .before .before .before .pre .2 .byte)
+cast-t32 c = omega (arith, c .before .before .before .before .before .before .before .before .before .before .before .before .before .before .before .before .before .before .before .before .before .before .before .before .before .pre .2 .field)
 
 cast-t33 : tie.Need-cast-t33
-cast-t33 c =
+cast-t33 c = omega (arith, c .before .before .before .before .before .before .before .before .before .before .before .before .before .before .before .before .before .before .before .before .before .before .before .before .before .pre .2 .byte)
+
+cast-t34 : tie.Need-cast-t34
+cast-t34 c =
     let d = decoded-is _ _ _ (sym (c .before .before .before .before .before .before .count .given .1) ∙ c .before .before .before .before .before .before .before .before .before .before .decode .ensures .0) in
     let room = string-room _ _ _ _ (d .0) (c .before .before .before .before .before .before .before .before .before .before .before .before .before .before .before .before .before .before .before .before .before .before .before .before .before .pre .1) (scanned _ _ _ _ (c .before .before .before .before .before .before .before .before .before .before .before .before .before .before .before .before .before .before .before .before .before .next .ensures) (c .before .before .before .before .before .before .before .before .before .before .before .before .before .before .before .before .before .before .before .st .given .1)) (c .before .before .before .before .before .before .before .before .before .before .before .before .before .before .before .if1 .left) (d .1) in
     omega (arith, room, d .2)
 
-add-t21 : tie.Need-add-t21
-add-t21 c = omega (arith, c .before .before .before .before .before .before .before .before .before .before .before .before .before .before .before .before .before .before .before .before .before .before .before .before .before .pre .2 .node)
+add-t22 : tie.Need-add-t22
+add-t22 c = omega (arith, c .before .before .before .before .before .before .before .before .before .before .before .before .before .before .before .before .before .before .before .before .before .before .before .before .before .pre .2 .node)
 
-cast-t34 : tie.Need-cast-t34
-cast-t34 c = omega (arith, c .before .before .before .before .before .before .before .before .before .before .before .before .before .before .before .before .before .before .before .before .before .before .before .before .before .pre .2 .node)
+cast-t35 : tie.Need-cast-t35
+cast-t35 c = omega (arith, c .before .before .before .before .before .before .before .before .before .before .before .before .before .before .before .before .before .before .before .before .before .before .before .before .before .pre .2 .node)
 
 put-requires : tie.Need-put-requires
 put-requires c κs = search needs
 
-add-t21-2 : tie.Need-add-t21-2
-add-t21-2 c = omega (arith, c .before .before .before .before .before .before .before .before .before .before .before .before .before .before .before .before .before .before .before .before .before .before .before .before .before .before .before .before .pre .2 .node)
+add-t22-2 : tie.Need-add-t22-2
+add-t22-2 c = omega (arith, c .before .before .before .before .before .before .before .before .before .before .before .before .before .before .before .before .before .before .before .before .before .before .before .before .before .before .before .before .pre .2 .node)
 
-add-t36 : tie.Need-add-t36
-add-t36 c =
+add-t37 : tie.Need-add-t37
+add-t37 c =
     let d = decoded-is _ _ _ (sym (c .before .before .before .before .before .before .before .before .before .count .given .1) ∙ c .before .before .before .before .before .before .before .before .before .before .before .before .before .decode .ensures .0) in
     let room = string-room _ _ _ _ (d .0) (c .before .before .before .before .before .before .before .before .before .before .before .before .before .before .before .before .before .before .before .before .before .before .before .before .before .before .before .before .pre .1) (scanned _ _ _ _ (c .before .before .before .before .before .before .before .before .before .before .before .before .before .before .before .before .before .before .before .before .before .before .before .before .next .ensures) (c .before .before .before .before .before .before .before .before .before .before .before .before .before .before .before .before .before .before .before .before .before .before .st .given .1)) (c .before .before .before .before .before .before .before .before .before .before .before .before .before .before .before .before .before .before .if1 .left) (d .1) in
     omega (arith, room, d .2)
@@ -151,15 +144,15 @@ read-string-spec =
     is-broken-requires
     same-length-2
     returns-4
-    cast-t30
     cast-t31
     cast-t32
     cast-t33
-    add-t21
     cast-t34
+    add-t22
+    cast-t35
     put-requires
-    add-t21-2
-    add-t36
+    add-t22-2
+    add-t37
     same-length-3
     same-length-4
     returns-5)

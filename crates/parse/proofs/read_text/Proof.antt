@@ -2,35 +2,32 @@
 use denote.Ref.{now}
 use mathlib.Core.Path.{_≡_, refl, sym, _∙_}
 use native.Mathlib.Omega.{arith}
+use Rattle.parse.proofs.Wholes.{empty-part, ends-no, ends-nodes, ends-bytes, ends-made, counted-node}
 use Rattle.parse.proofs.Wholes.{empty-part, origin-fair, root-fits, ends-no, ends-nodes, ends-bytes, ends-made, counted-node}
 use borrow.Author.Needs.{needs}
 use Rattle.parse.proofs.read_text.Statement.{statement}
 use Rattle.parse.proofs.read_text.Tie as tie
-use Rattle.parse.proofs.read_text.Reads as reads
-use Rattle.parse.proofs.read_text.Lts as lts
-use Rattle.lexer.proofs.classes.table.Reads as table-reads
-use Rattle.parse.proofs.node_room.Reads as node-room-reads
-use Rattle.parse.proofs.put.Reads as put-reads
-use Rattle.parse.proofs.read_message.Reads as read-message-reads
-use Rattle.parse.proofs.refusal.Reads as refusal-reads
 
 table-requires : tie.Need-table-requires
 table-requires c κs = search needs
 
-slice-relend-prefix-read-message : tie.Need-slice-relend-prefix-read-message
-slice-relend-prefix-read-message c = search needs
+escapes-requires : tie.Need-escapes-requires
+escapes-requires c κs = search needs
 
-slice-aggregate-read-message : tie.Need-slice-aggregate-read-message
-slice-aggregate-read-message c = search needs
+slice-relend-prefix-read-root : tie.Need-slice-relend-prefix-read-root
+slice-relend-prefix-read-root c = search needs
 
-slice-relend-prefix-read-message-2 : tie.Need-slice-relend-prefix-read-message-2
-slice-relend-prefix-read-message-2 c = search needs
+slice-aggregate-read-root : tie.Need-slice-aggregate-read-root
+slice-aggregate-read-root c = search needs
 
-slice-aggregate-read-message-2 : tie.Need-slice-aggregate-read-message-2
-slice-aggregate-read-message-2 c = search needs
+slice-relend-prefix-read-root-2 : tie.Need-slice-relend-prefix-read-root-2
+slice-relend-prefix-read-root-2 c = search needs
 
-read-message-requires : tie.Need-read-message-requires
-read-message-requires c κs = (c .before .before .before .table .ensures, c .before .before .before .before .before .before .before .before .pre .0, origin-fair _ (c .before .before .before .before .before .before .before .before .pre .2), root-fits _ _ (c .before .before .before .before .before .before .before .before .pre .1), refl)
+slice-aggregate-read-root-2 : tie.Need-slice-aggregate-read-root-2
+slice-aggregate-read-root-2 c = search needs
+
+read-root-requires : tie.Need-read-root-requires
+read-root-requires c κs = ((c .before .before .before .before .before .table .ensures, c .before .before .before .before .escapes .ensures), c .before .before .before .before .before .before .before .before .before .before .pre .0, c .before .before .before .before .before .before .before .before .before .before .pre .1, c .before .before .before .before .before .before .before .before .before .before .pre .2)
 
 enum-known-counted : tie.Need-enum-known-counted
 enum-known-counted c = search needs
@@ -48,7 +45,7 @@ same-length-2 : tie.Need-same-length-2
 same-length-2 c = search needs
 
 returns : tie.Need-returns
-returns c = ends-no (now (c .before .before .before .before .before .before .before .before .before .before .before .before .before .before .before .before .args .image)) (c .before .before .before .before .before .before .before .before .before .before .before .before .before .before .before .before .args .root) (now (c .before .before .before .before .before .before .before .before .before .before .before .before .before .before .before .before .args .s)) (now (c .before .before .before .before .before .before .before .before .before .before .before .before .before .before .before .before .args .nodes)) (now (c .before .before .before .before .before .before .before .before .before .before .before .before .before .before .before .before .args .pool)) _ _ _ _ _ (c .before .before .before .before .before .before .before .read-message .ensures) _ _ (empty-part (c .before .before .before .before .before .before .before .read-message .last .1 .1 .1 .1 .1 .1 .1 .1 .0) (c .before .before .before .before .before .before .before .before .before .before .before .before .before .before .before .before .args .nodes .now) (c .before .before .before .before .before .before .before .read-message .kept .1 .1 .1 .1 .1 .1 .1 .1 .0)) (empty-part (c .before .before .before .before .before .before .before .read-message .last .1 .1 .1 .1 .1 .1 .1 .1 .1 .0) (c .before .before .before .before .before .before .before .before .before .before .before .before .before .before .before .before .args .pool .now) (c .before .before .before .before .before .before .before .read-message .kept .1 .1 .1 .1 .1 .1 .1 .1 .1 .0)) _ _ (c .before .enum-told .given .1) _ (c .refusal .ensures)
+returns c = ends-no (now (c .before .before .before .before .before .before .before .before .before .before .before .before .before .before .before .before .before .before .args .image)) (c .before .before .before .before .before .before .before .before .before .before .before .before .before .before .before .before .before .before .args .root) (now (c .before .before .before .before .before .before .before .before .before .before .before .before .before .before .before .before .before .before .args .s)) (now (c .before .before .before .before .before .before .before .before .before .before .before .before .before .before .before .before .before .before .args .nodes)) (now (c .before .before .before .before .before .before .before .before .before .before .before .before .before .before .before .before .before .before .args .pool)) _ _ _ _ _ (c .before .before .before .before .before .before .before .read-root .ensures) _ _ (empty-part (c .before .before .before .before .before .before .before .read-root .last .1 .1 .1 .1 .1 .1 .0) (c .before .before .before .before .before .before .before .before .before .before .before .before .before .before .before .before .before .before .args .nodes .now) (c .before .before .before .before .before .before .before .read-root .kept .1 .1 .1 .1 .1 .1 .0)) (empty-part (c .before .before .before .before .before .before .before .read-root .last .1 .1 .1 .1 .1 .1 .1 .0) (c .before .before .before .before .before .before .before .before .before .before .before .before .before .before .before .before .before .before .args .pool .now) (c .before .before .before .before .before .before .before .read-root .kept .1 .1 .1 .1 .1 .1 .1 .0)) _ _ (c .before .enum-told .given .1) _ (c .refusal .ensures)
 
 node-room-requires : tie.Need-node-room-requires
 node-room-requires c κs = search needs
@@ -60,7 +57,7 @@ same-length-4 : tie.Need-same-length-4
 same-length-4 c = search needs
 
 returns-2 : tie.Need-returns-2
-returns-2 c = ends-nodes (now (c .before .before .before .before .before .before .before .before .before .before .before .before .before .before .before .before .before .before .args .image)) (c .before .before .before .before .before .before .before .before .before .before .before .before .before .before .before .before .before .before .args .root) (now (c .before .before .before .before .before .before .before .before .before .before .before .before .before .before .before .before .before .before .args .s)) (now (c .before .before .before .before .before .before .before .before .before .before .before .before .before .before .before .before .before .before .args .nodes)) (now (c .before .before .before .before .before .before .before .before .before .before .before .before .before .before .before .before .before .before .args .pool)) _ _ _ _ _ (c .before .before .before .before .before .before .before .before .before .read-message .ensures) _ _ (empty-part (c .before .before .before .before .before .before .before .before .before .read-message .last .1 .1 .1 .1 .1 .1 .1 .1 .0) (c .before .before .before .before .before .before .before .before .before .before .before .before .before .before .before .before .before .before .args .nodes .now) (c .before .before .before .before .before .before .before .before .before .read-message .kept .1 .1 .1 .1 .1 .1 .1 .1 .0)) (empty-part (c .before .before .before .before .before .before .before .before .before .read-message .last .1 .1 .1 .1 .1 .1 .1 .1 .1 .0) (c .before .before .before .before .before .before .before .before .before .before .before .before .before .before .before .before .before .before .args .pool .now) (c .before .before .before .before .before .before .before .before .before .read-message .kept .1 .1 .1 .1 .1 .1 .1 .1 .1 .0)) _ (c .before .before .before .counted .given .1) _ (c .before .node-room .ensures) (c .if1 .taken)
+returns-2 c = ends-nodes (now (c .before .before .before .before .before .before .before .before .before .before .before .before .before .before .before .before .before .before .before .before .args .image)) (c .before .before .before .before .before .before .before .before .before .before .before .before .before .before .before .before .before .before .before .before .args .root) (now (c .before .before .before .before .before .before .before .before .before .before .before .before .before .before .before .before .before .before .before .before .args .s)) (now (c .before .before .before .before .before .before .before .before .before .before .before .before .before .before .before .before .before .before .before .before .args .nodes)) (now (c .before .before .before .before .before .before .before .before .before .before .before .before .before .before .before .before .before .before .before .before .args .pool)) _ _ _ _ _ (c .before .before .before .before .before .before .before .before .before .read-root .ensures) _ _ (empty-part (c .before .before .before .before .before .before .before .before .before .read-root .last .1 .1 .1 .1 .1 .1 .0) (c .before .before .before .before .before .before .before .before .before .before .before .before .before .before .before .before .before .before .before .before .args .nodes .now) (c .before .before .before .before .before .before .before .before .before .read-root .kept .1 .1 .1 .1 .1 .1 .0)) (empty-part (c .before .before .before .before .before .before .before .before .before .read-root .last .1 .1 .1 .1 .1 .1 .1 .0) (c .before .before .before .before .before .before .before .before .before .before .before .before .before .before .before .before .before .before .before .before .args .pool .now) (c .before .before .before .before .before .before .before .before .before .read-root .kept .1 .1 .1 .1 .1 .1 .1 .0)) _ (c .before .before .before .counted .given .1) _ (c .before .node-room .ensures) (c .if1 .taken)
 
 same-length-5 : tie.Need-same-length-5
 same-length-5 c = search needs
@@ -69,16 +66,13 @@ same-length-6 : tie.Need-same-length-6
 same-length-6 c = search needs
 
 returns-3 : tie.Need-returns-3
-returns-3 c = ends-bytes (now (c .before .before .before .before .before .before .before .before .before .before .before .before .before .before .before .before .before .before .before .args .image)) (c .before .before .before .before .before .before .before .before .before .before .before .before .before .before .before .before .before .before .before .args .root) (now (c .before .before .before .before .before .before .before .before .before .before .before .before .before .before .before .before .before .before .before .args .s)) (now (c .before .before .before .before .before .before .before .before .before .before .before .before .before .before .before .before .before .before .before .args .nodes)) (now (c .before .before .before .before .before .before .before .before .before .before .before .before .before .before .before .before .before .before .before .args .pool)) _ _ _ _ _ (c .before .before .before .before .before .before .before .before .before .before .read-message .ensures) _ _ (empty-part (c .before .before .before .before .before .before .before .before .before .before .read-message .last .1 .1 .1 .1 .1 .1 .1 .1 .0) (c .before .before .before .before .before .before .before .before .before .before .before .before .before .before .before .before .before .before .before .args .nodes .now) (c .before .before .before .before .before .before .before .before .before .before .read-message .kept .1 .1 .1 .1 .1 .1 .1 .1 .0)) (empty-part (c .before .before .before .before .before .before .before .before .before .before .read-message .last .1 .1 .1 .1 .1 .1 .1 .1 .1 .0) (c .before .before .before .before .before .before .before .before .before .before .before .before .before .before .before .before .before .before .before .args .pool .now) (c .before .before .before .before .before .before .before .before .before .before .read-message .kept .1 .1 .1 .1 .1 .1 .1 .1 .1 .0)) _ (c .before .before .before .before .counted .given .1) _ (c .before .before .node-room .ensures) (c .before .if1 .left) (c .if2 .taken)
+returns-3 c = ends-bytes (now (c .before .before .before .before .before .before .before .before .before .before .before .before .before .before .before .before .before .before .before .before .before .args .image)) (c .before .before .before .before .before .before .before .before .before .before .before .before .before .before .before .before .before .before .before .before .before .args .root) (now (c .before .before .before .before .before .before .before .before .before .before .before .before .before .before .before .before .before .before .before .before .before .args .s)) (now (c .before .before .before .before .before .before .before .before .before .before .before .before .before .before .before .before .before .before .before .before .before .args .nodes)) (now (c .before .before .before .before .before .before .before .before .before .before .before .before .before .before .before .before .before .before .before .before .before .args .pool)) _ _ _ _ _ (c .before .before .before .before .before .before .before .before .before .before .read-root .ensures) _ _ (empty-part (c .before .before .before .before .before .before .before .before .before .before .read-root .last .1 .1 .1 .1 .1 .1 .0) (c .before .before .before .before .before .before .before .before .before .before .before .before .before .before .before .before .before .before .before .before .before .args .nodes .now) (c .before .before .before .before .before .before .before .before .before .before .read-root .kept .1 .1 .1 .1 .1 .1 .0)) (empty-part (c .before .before .before .before .before .before .before .before .before .before .read-root .last .1 .1 .1 .1 .1 .1 .1 .0) (c .before .before .before .before .before .before .before .before .before .before .before .before .before .before .before .before .before .before .before .before .before .args .pool .now) (c .before .before .before .before .before .before .before .before .before .before .read-root .kept .1 .1 .1 .1 .1 .1 .1 .0)) _ (c .before .before .before .before .counted .given .1) _ (c .before .before .node-room .ensures) (c .before .if1 .left) (c .if2 .taken)
 
-read-message-requires-2 : tie.Need-read-message-requires-2
-read-message-requires-2 c κs = (c .before .before .before .before .before .before .before .before .before .before .before .before .before .before .before .before .before .table .ensures, c .before .before .before .before .before .before .before .before .before .before .before .before .before .before .before .before .before .before .before .before .before .before .pre .0, origin-fair _ (c .before .before .before .before .before .before .before .before .before .before .before .before .before .before .before .before .before .before .before .before .before .before .pre .2), root-fits _ _ (c .before .before .before .before .before .before .before .before .before .before .before .before .before .before .before .before .before .before .before .before .before .before .pre .1), refl)
+read-root-requires-2 : tie.Need-read-root-requires-2
+read-root-requires-2 c κs = ((c .before .before .before .before .before .before .before .before .before .before .before .before .before .before .before .before .before .before .before .before .table .ensures, c .before .before .before .before .before .before .before .before .before .before .before .before .before .before .before .before .before .before .before .escapes .ensures), c .before .before .before .before .before .before .before .before .before .before .before .before .before .before .before .before .before .before .before .before .before .before .before .before .before .pre .0, c .before .before .before .before .before .before .before .before .before .before .before .before .before .before .before .before .before .before .before .before .before .before .before .before .before .pre .1, c .before .before .before .before .before .before .before .before .before .before .before .before .before .before .before .before .before .before .before .before .before .before .before .before .before .pre .2)
 
-cast-t34 : tie.Need-cast-t34
-cast-t34 c = search needs
-
-put-requires : tie.Need-put-requires
-put-requires c κs = search needs
+put-body-requires : tie.Need-put-body-requires
+put-body-requires c κs = (omega arith, omega (arith, counted-node (now (c .before .before .before .before .before .before .before .before .before .before .before .before .before .before .before .before .before .before .before .before .before .before .before .before .before .before .before .before .before .before .before .args .image)) (c .before .before .before .before .before .before .before .before .before .before .before .before .before .before .before .before .before .before .before .before .before .before .before .before .before .before .before .before .before .before .before .args .root) (now (c .before .before .before .before .before .before .before .before .before .before .before .before .before .before .before .before .before .before .before .before .before .before .before .before .before .before .before .before .before .before .before .args .s)) (now (c .before .before .before .before .before .before .before .before .before .before .before .before .before .before .before .before .before .before .before .before .before .before .before .before .before .before .before .before .before .before .before .args .nodes)) (now (c .before .before .before .before .before .before .before .before .before .before .before .before .before .before .before .before .before .before .before .before .before .before .before .before .before .before .before .before .before .before .before .args .pool)) _ _ _ _ _ (c .before .before .before .before .before .before .before .before .before .before .before .before .before .before .before .before .before .before .before .before .read-root .ensures) _ _ (empty-part (c .before .before .before .before .before .before .before .before .before .before .before .before .before .before .before .before .before .before .before .before .read-root .last .1 .1 .1 .1 .1 .1 .0) (c .before .before .before .before .before .before .before .before .before .before .before .before .before .before .before .before .before .before .before .before .before .before .before .before .before .before .before .before .before .before .before .args .nodes .now) (c .before .before .before .before .before .before .before .before .before .before .before .before .before .before .before .before .before .before .before .before .read-root .kept .1 .1 .1 .1 .1 .1 .0)) (empty-part (c .before .before .before .before .before .before .before .before .before .before .before .before .before .before .before .before .before .before .before .before .read-root .last .1 .1 .1 .1 .1 .1 .1 .0) (c .before .before .before .before .before .before .before .before .before .before .before .before .before .before .before .before .before .before .before .before .before .before .before .before .before .before .before .before .before .before .before .args .pool .now) (c .before .before .before .before .before .before .before .before .before .before .before .before .before .before .before .before .before .before .before .before .read-root .kept .1 .1 .1 .1 .1 .1 .1 .0)) _ (c .before .before .before .before .before .before .before .before .before .before .before .before .before .before .counted .given .1) (c .before .before .before .before .before .before .before .before .before .before .before .before .before .before .before .before .before .before .before .before .before .before .before .before .before .before .before .before .before .before .before .pre .2)))
 
 same-length-7 : tie.Need-same-length-7
 same-length-7 c = search needs
@@ -87,18 +81,19 @@ same-length-8 : tie.Need-same-length-8
 same-length-8 c = search needs
 
 returns-4 : tie.Need-returns-4
-returns-4 c = ends-made (now (c .before .before .before .before .before .before .before .before .before .before .before .before .before .before .before .before .before .before .before .before .before .before .before .before .before .before .before .before .before .before .before .args .image)) (c .before .before .before .before .before .before .before .before .before .before .before .before .before .before .before .before .before .before .before .before .before .before .before .before .before .before .before .before .before .before .before .args .root) (now (c .before .before .before .before .before .before .before .before .before .before .before .before .before .before .before .before .before .before .before .before .before .before .before .before .before .before .before .before .before .before .before .args .s)) (now (c .before .before .before .before .before .before .before .before .before .before .before .before .before .before .before .before .before .before .before .before .before .before .before .before .before .before .before .before .before .before .before .args .nodes)) (now (c .before .before .before .before .before .before .before .before .before .before .before .before .before .before .before .before .before .before .before .before .before .before .before .before .before .before .before .before .before .before .before .args .pool)) _ _ _ _ _ (c .before .before .before .before .before .before .before .before .before .before .before .before .before .before .before .before .before .before .before .before .before .before .read-message .ensures) _ _ (empty-part (c .before .before .before .before .before .before .before .before .before .before .before .before .before .before .before .before .before .before .before .before .before .before .read-message .last .1 .1 .1 .1 .1 .1 .1 .1 .0) (c .before .before .before .before .before .before .before .before .before .before .before .before .before .before .before .before .before .before .before .before .before .before .before .before .before .before .before .before .before .before .before .args .nodes .now) (c .before .before .before .before .before .before .before .before .before .before .before .before .before .before .before .before .before .before .before .before .before .before .read-message .kept .1 .1 .1 .1 .1 .1 .1 .1 .0)) (empty-part (c .before .before .before .before .before .before .before .before .before .before .before .before .before .before .before .before .before .before .before .before .before .before .read-message .last .1 .1 .1 .1 .1 .1 .1 .1 .1 .0) (c .before .before .before .before .before .before .before .before .before .before .before .before .before .before .before .before .before .before .before .before .before .before .before .before .before .before .before .before .before .before .before .args .pool .now) (c .before .before .before .before .before .before .before .before .before .before .before .before .before .before .before .before .before .before .before .before .before .before .read-message .kept .1 .1 .1 .1 .1 .1 .1 .1 .1 .0)) _ (c .before .before .before .before .before .before .before .before .before .before .before .before .before .before .before .before .counted .given .1) _ (c .before .before .before .before .before .before .before .before .before .before .before .before .before .before .node-room .ensures) (c .before .before .before .before .before .before .before .before .before .before .before .before .before .if1 .left) (c .before .before .before .before .before .before .before .before .before .before .before .before .if2 .left) _ _ _ (c .before .before .before .before .before .before .before .before .read-message2 .ensures) (c .before .before .before .before .before .before .before .before .read-message2 .kept .1 .1 .1 .1 .1 .1 .1 .1 .0) _ (c .before .before .put .ensures)
+returns-4 c = ends-made (now (c .before .before .before .before .before .before .before .before .before .before .before .before .before .before .before .before .before .before .before .before .before .before .before .before .before .before .before .before .before .before .before .before .before .before .args .image)) (c .before .before .before .before .before .before .before .before .before .before .before .before .before .before .before .before .before .before .before .before .before .before .before .before .before .before .before .before .before .before .before .before .before .before .args .root) (now (c .before .before .before .before .before .before .before .before .before .before .before .before .before .before .before .before .before .before .before .before .before .before .before .before .before .before .before .before .before .before .before .before .before .before .args .s)) (now (c .before .before .before .before .before .before .before .before .before .before .before .before .before .before .before .before .before .before .before .before .before .before .before .before .before .before .before .before .before .before .before .before .before .before .args .nodes)) (now (c .before .before .before .before .before .before .before .before .before .before .before .before .before .before .before .before .before .before .before .before .before .before .before .before .before .before .before .before .before .before .before .before .before .before .args .pool)) _ _ _ _ _ (c .before .before .before .before .before .before .before .before .before .before .before .before .before .before .before .before .before .before .before .before .before .before .before .read-root .ensures) _ _ (empty-part (c .before .before .before .before .before .before .before .before .before .before .before .before .before .before .before .before .before .before .before .before .before .before .before .read-root .last .1 .1 .1 .1 .1 .1 .0) (c .before .before .before .before .before .before .before .before .before .before .before .before .before .before .before .before .before .before .before .before .before .before .before .before .before .before .before .before .before .before .before .before .before .before .args .nodes .now) (c .before .before .before .before .before .before .before .before .before .before .before .before .before .before .before .before .before .before .before .before .before .before .before .read-root .kept .1 .1 .1 .1 .1 .1 .0)) (empty-part (c .before .before .before .before .before .before .before .before .before .before .before .before .before .before .before .before .before .before .before .before .before .before .before .read-root .last .1 .1 .1 .1 .1 .1 .1 .0) (c .before .before .before .before .before .before .before .before .before .before .before .before .before .before .before .before .before .before .before .before .before .before .before .before .before .before .before .before .before .before .before .before .before .before .args .pool .now) (c .before .before .before .before .before .before .before .before .before .before .before .before .before .before .before .before .before .before .before .before .before .before .before .read-root .kept .1 .1 .1 .1 .1 .1 .1 .0)) _ (c .before .before .before .before .before .before .before .before .before .before .before .before .before .before .before .before .before .counted .given .1) _ (c .before .before .before .before .before .before .before .before .before .before .before .before .before .before .before .node-room .ensures) (c .before .before .before .before .before .before .before .before .before .before .before .before .before .before .if1 .left) (c .before .before .before .before .before .before .before .before .before .before .before .before .before .if2 .left) _ _ _ (c .before .before .before .before .before .before .before .before .read-root2 .ensures) (c .before .before .before .before .before .before .before .before .read-root2 .kept .1 .1 .1 .1 .1 .1 .0) _ (c .before .before .put-body .ensures)
 
 pub read-text-spec : {M : Type 1} → statement M
 read-text-spec =
     tie.close
     (tie.spec
     table-requires
-    slice-relend-prefix-read-message
-    slice-aggregate-read-message
-    slice-relend-prefix-read-message-2
-    slice-aggregate-read-message-2
-    read-message-requires
+    escapes-requires
+    slice-relend-prefix-read-root
+    slice-aggregate-read-root
+    slice-relend-prefix-read-root-2
+    slice-aggregate-read-root-2
+    read-root-requires
     enum-known-counted
     enum-told
     refusal-requires
@@ -112,9 +107,8 @@ read-text-spec =
     same-length-5
     same-length-6
     returns-3
-    read-message-requires-2
-    cast-t34
-    put-requires
+    read-root-requires-2
+    put-body-requires
     same-length-7
     same-length-8
     returns-4)
