@@ -6,7 +6,7 @@ use native.Mathlib.Omega.{arith}
 use native.Mathlib.Nat.{add-zero}
 use native.Mathlib.Numerals.{add-one}
 use lib.ListN.{length, take, getD, set, length-append}
-use lib.Seq.{sets, set-out, length-sets, take-suc, take-all, length-take-le}
+use lib.Seq.{sets, set-out, set-comm, length-sets, take-suc, take-all, length-take-le}
 use Rattle.print.specs.Written.{Written, Room}
 
 -- a run of stores, and then the next
@@ -15,6 +15,21 @@ sets-append [] b e i = rw add-zero refl
 sets-append (x ∷ a) b e i =
     let q : suc i + length a ≡ i + suc (length a) = omega arith in
     sets-append a b (set e i x) (suc i) ∙ rw q refl
+
+-- a store past a run of stores, before it or after
+set-sets : (a e : List ℕ) (i j x : ℕ) → i + length a ≤ j → sets (set e j x) i a ≡ set (sets e i a) j x
+set-sets [] e i j x h = refl
+set-sets (y ∷ a) e i j x h =
+    ap (λ (l : List ℕ). sets l (suc i) a) (set-comm e j i x y (λ q. omega (arith, q, h))) ∙ set-sets a (set e i y) (suc i) j x (omega (arith, h))
+
+-- a run of stores whose last is made first
+pub sets-last : (a e : List ℕ) (i j x : ℕ) → j ≡ i + length a → sets e i (a ++ (x ∷ [])) ≡ sets (set e j x) i a
+sets-last a e i j x q = sets-append a (x ∷ []) e i ∙ rw q (sym (set-sets a e i (i + length a) x (omega arith)))
+
+-- stores where there is no room
+sets-out : (a e : List ℕ) (i : ℕ) → length e ≤ i → sets e i a ≡ e
+sets-out [] e i h = refl
+sets-out (x ∷ a) e i h = rw (set-out e i x h) (sets-out a e (suc i) (omega arith))
 
 pub none-written : (b : List ℕ) (at : ℕ) → Written b at [] b at
 none-written b at = record { ends = omega arith; holds = refl }
@@ -36,6 +51,10 @@ byte-written b at x = record { ends = refl; holds = refl }
 
 pub byte-passed : (b : List ℕ) (at x : ℕ) → length b ≤ at → Written b at (x ∷ []) b (at + 1)
 byte-passed b at x h = record { ends = refl; holds = sym (set-out b at x h) }
+
+-- a text where there is no room
+pub text-passed : (b t : List ℕ) (at : ℕ) → length b ≤ at → Written b at t b (at + length t)
+text-passed b t at h = record { ends = refl; holds = sym (sets-out t b at h) }
 
 -- the buffer keeps its length
 pub written-length : {a b t : List ℕ} {at r : ℕ} → Written a at t b r → length b ≡ length a

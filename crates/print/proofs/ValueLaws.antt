@@ -5,12 +5,12 @@ use Prim.Native.Nat.{ℕ, suc, _+_, _-_, _/_, _%_, _≤_, _<_, _^_}
 use mathlib.Core.List.{List, [], _∷_, _++_, append-assoc, append-nil}
 use native.Mathlib.Omega.{arith}
 use native.Mathlib.Numerals.{add-one}
-use lib.ListN.{length, take, drop, getD, set, length-append, length-drop, length-set, take-append-drop, drop-of-length-le}
-use lib.Seq.{take-suc, take-all, drop-cons, lt-length-set, getD-set-same, drop-set-lt}
+use lib.ListN.{length, take, drop, getD, set, length-append, take-append-drop}
+use lib.Seq.{sets, length-sets, take-suc, take-all, drop-cons}
 use borrow.Author.Tests.{ne-eqb, le-leb, lt-leb}
 use Rattle.definitions.specs.Print.{slashed, quoteByte, quoteBytes, quoted, decimal, signedDecimal}
 use Rattle.print.specs.Written.{Written, Room}
-use Rattle.print.proofs.Texts.{then-written, as-written, none-written}
+use Rattle.print.proofs.Texts.{sets-last, then-written, as-written, none-written}
 use Rattle.laws.proofs.Decimal.{decimal-small, decimal-step, decimal-some, decimal-length}
 use Rattle.laws.proofs.Ranges.{signedDecimal-minus}
 use Rattle.laws.proofs.Quoting.{quoteBytes-append}
@@ -110,57 +110,96 @@ pub quoted-room-last : {a b c : List ℕ} {at p q : ℕ} (s : List ℕ) (i : ℕ
     → Written a at (34 ∷ []) b p → Written b p (quoteBytes (take i s)) c q → Room q (34 ∷ [])
 quoted-room-last s i r f g = record { fits = omega (arith, r .fits, f .ends, g .ends, quoted-counts s i) }
 
--- ---- decimal digits, the last one first: those found stand from k on, and those of `left` are to come
+-- ---- how many decimal digits a number has
 
-pub record Digits (n : ℕ) (found : List ℕ) (k left : ℕ) : Type 0 where
-  pub size : length found ≡ 20
-  pub room : k ≤ 20
-  pub split : decimal n ≡ decimal left ++ drop k found
+counted-more : (n : ℕ) → 10 ≤ n → length (decimal n) ≡ length (decimal (n / 10)) + 1
+counted-more n h = rw (decimal-step n h) (length-append (decimal (n / 10)) ((48 + n % 10) ∷ []))
+
+pub counted-one : (n : ℕ) → n < 10 → length (decimal n) ≡ 1
+counted-one n h = rw (decimal-small n h) refl
+
+pub counted-two : (n : ℕ) → 10 ≤ n → n < 100 → length (decimal n) ≡ 2
+counted-two n h k = omega (arith, counted-more n h, counted-one (n / 10) (omega arith))
+
+pub counted-three : (n : ℕ) → 100 ≤ n → n < 1000 → length (decimal n) ≡ 3
+counted-three n h k = omega (arith, counted-more n (omega arith), counted-two (n / 10) (omega arith) (omega arith))
+
+pub counted-four : (n : ℕ) → 1000 ≤ n → n < 10000 → length (decimal n) ≡ 4
+counted-four n h k = omega (arith, counted-more n (omega arith), counted-three (n / 10) (omega arith) (omega arith))
+
+-- four digits off the end
+counted-off : (n : ℕ) → 10000 ≤ n → length (decimal n) ≡ length (decimal (n / 10000)) + 4
+counted-off n h =
+    let same : n / 10 / 10 / 10 / 10 ≡ n / 10000 = omega arith in
+    omega (
+      arith,
+      counted-more n (omega arith),
+      counted-more (n / 10) (omega arith),
+      counted-more (n / 10 / 10) (omega arith),
+      counted-more (n / 10 / 10 / 10) (omega arith),
+      ap (λ (m : ℕ). length (decimal m)) same,
+    )
+
+-- so many are counted, and those of `left` are to come
+pub record Counted (n more left : ℕ) : Type 0 where
+  pub split : length (decimal n) ≡ more + length (decimal left)
   pub few : length (decimal n) ≤ 20
 
--- a byte stored just before those from k on
-pub drop-stored : (l : List ℕ) (k x : ℕ) → k < length l → drop k (set l k x) ≡ x ∷ drop (k + 1) l
-drop-stored l k x h =
-    drop-cons (set l k x) k 0 (lt-length-set l k x h)
-    ∙ rw (getD-set-same l k x 0 h, drop-set-lt (suc k) l k x (omega arith), add-one k)
+pub counted-start : (n : ℕ) → n < 2 ^ 64 → Counted n 0 n
+counted-start n h = record { split = omega arith; few = decimal-length 19 n (omega arith) }
 
-pub digits-start : (n : ℕ) (found : List ℕ) → length found ≡ 20 → n < 2 ^ 64 → Digits n found 20 n
-digits-start n found e h =
-    record {
-      size = e;
-      room = omega arith;
-      split = rw (drop-of-length-le found {i = 20} (omega arith)) (sym (append-nil (decimal n)));
-      few = decimal-length 19 n (omega arith);
-    }
+pub counted-on : {n more left : ℕ} → Counted n more left → 10000 ≤ left → Counted n (more + 4) (left / 10000)
+counted-on {n} {more} {left} d h = record { split = omega (arith, d .split, counted-off left h); few = d .few }
 
-pub digits-some : {n k left : ℕ} {found : List ℕ} → Digits n found k left → 1 ≤ k
-digits-some {n} {k} {left} {found} d =
-    omega (arith, d .few, d .room, d .size, ap length (d .split), length-append (decimal left) (drop k found), length-drop k found, decimal-some left)
+-- ---- decimal digits, the last one first: those of `left` are to come, up to place k
 
--- one digit more, and the first
-module _ {n k left : ℕ} {found : List ℕ} (d : Digits n found k left) where
-  stored : (x : ℕ) → drop (k - 1) (set found (k - 1) x) ≡ x ∷ drop k found
-  stored x =
-      let some = digits-some d in
-      let back : k - 1 + 1 ≡ k = omega arith in
-      drop-stored found (k - 1) x (omega (arith, d .room, d .size)) ∙ rw back refl
+pub record Digits (n : ℕ) (before : List ℕ) (at : ℕ) (after : List ℕ) (k left : ℕ) : Type 0 where
+  pub place : k + 1 ≡ at + length (decimal left)
+  pub short : length (decimal left) ≤ length (decimal n)
+  pub holds : sets after at (decimal left) ≡ sets before at (decimal n)
 
-  pub digits-more : 10 ≤ left → Digits n (set found (k - 1) (48 + left % 10)) (k - 1) (left / 10)
-  digits-more h =
+pub digits-start : (n : ℕ) (before : List ℕ) (at : ℕ) → Digits n before at before (at + length (decimal n) - 1) n
+digits-start n before at = record { place = omega (arith, decimal-some n); short = omega arith; holds = refl }
+
+module _ {n at k left : ℕ} {before after : List ℕ} (d : Digits n before at after k left) where
+  pub digits-room : {x : ℕ} → Room at (decimal n) → Room k (x ∷ [])
+  digits-room r = record { fits = omega (arith, d .place, d .short, r .fits) }
+
+  pub digits-length : length after ≡ length before
+  digits-length = sym (length-sets after at (decimal left)) ∙ ap length (d .holds) ∙ length-sets before at (decimal n)
+
+  -- one digit more
+  module _ (h : 10 ≤ left) where
+    one-less : length (decimal left) ≡ length (decimal (left / 10)) + 1
+    one-less = counted-more left h
+
+    pub digits-some : 1 ≤ k
+    digits-some = omega (arith, d .place, one-less, decimal-some (left / 10))
+
+    pub digits-more : {into : List ℕ} {r : ℕ} → Written after k ((48 + left % 10) ∷ []) into r → Digits n before at into (k - 1) (left / 10)
+    digits-more f =
+        let here : k ≡ at + length (decimal (left / 10)) = omega (arith, d .place, one-less) in
+        record {
+          place = omega (arith, here, digits-some);
+          short = omega (arith, d .short, one-less);
+          holds =
+              rw (f .holds) (sym (sets-last (decimal (left / 10)) after at k (48 + left % 10) here))
+              ∙ ap (sets after at) (sym (decimal-step left h))
+              ∙ d .holds;
+        }
+
+  -- and the first
+  pub digits-last : {into : List ℕ} {r : ℕ} → left < 10 → Written after k ((48 + left) ∷ []) into r → Written before at (decimal n) into (at + length (decimal n))
+  digits-last h f =
+      let here : k ≡ at = omega (arith, d .place, counted-one left h) in
       record {
-        size = length-set found (k - 1) (48 + left % 10) ∙ d .size;
-        room = omega (arith, d .room);
-        split =
-            d .split
-            ∙ rw (decimal-step left h, stored (48 + left % 10)) (append-assoc (decimal (left / 10)) ((48 + left % 10) ∷ []) (drop k found));
-        few = d .few;
+        ends = refl;
+        holds =
+            f .holds
+            ∙ ap (λ (j : ℕ). set after j (48 + left)) here
+            ∙ ap (sets after at) (sym (decimal-small left h))
+            ∙ d .holds;
       }
-
-  pub digits-last : left < 10 → take (20 - (k - 1)) (drop (k - 1) (set found (k - 1) (48 + left))) ≡ decimal n
-  digits-last h =
-      take-all (20 - (k - 1)) (drop (k - 1) (set found (k - 1) (48 + left)))
-      (omega (arith, length-drop (k - 1) (set found (k - 1) (48 + left)), length-set found (k - 1) (48 + left), d .size))
-      ∙ sym (d .split ∙ rw (decimal-small left h, stored (48 + left)) refl)
 
 -- the sign, and the magnitude as the code finds it inside 64 bits
 pub signed-parts : (n : ℕ) → 2 ^ 63 ≤ n → n < 2 ^ 64 → signedDecimal n ≡ (45 ∷ []) ++ decimal (18446744073709551615 - n + 1)

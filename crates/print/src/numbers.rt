@@ -1,25 +1,50 @@
 // Numbers in decimal.
 use crate::put::put_byte;
-use crate::put::put_slice;
+ghost use mathlib.Core.Path.{_≡_};
+ghost use lib.ListN.{length};
 ghost use Rattle.definitions.specs.Print.{decimal, signedDecimal};
 ghost use Rattle.print.specs.Written.{Written, Room};
+
+// How many digits a number has; four of them at a time.
+fn decimal_length(n: u64) -> usize
+    ensures { λ r. ⌜ r ≡ length (decimal n) ⌝ }
+{
+    let mut more = 0;
+    let mut left = n;
+    while left >= 10000 {
+        left = left / 10000;
+        more += 4;
+    }
+    if left < 10 {
+        return more + 1;
+    }
+    if left < 100 {
+        return more + 2;
+    }
+    if left < 1000 {
+        return more + 3;
+    }
+    more + 4
+}
 
 // The last digit is found first.
 pub fn print_decimal(n: u64, buffer: &mut [u8], at: usize) -> usize
     requires { ⌜ Room at (decimal n) ⌝ }
     ensures { λ r. ⌜ Written (now (buffer .entry)) at (decimal n) (now (buffer .exit)) r ⌝ }
 {
-    let mut digits = [0u8; 20];
-    let mut k: usize = 20;
+    let end = at + decimal_length(n);
+    if buffer.len() <= at {
+        return end;
+    }
+    let mut k = end - 1;
     let mut left = n;
     while left >= 10 {
+        put_byte((48 + left % 10) as u8, buffer, k);
         k -= 1;
-        digits[k] = (48 + left % 10) as u8;
         left = left / 10;
     }
-    k -= 1;
-    digits[k] = (48 + left) as u8;
-    put_slice(&digits[k..], buffer, at)
+    put_byte((48 + left) as u8, buffer, k);
+    end
 }
 
 // 64 bits in two's complement.

@@ -1,69 +1,66 @@
--- `print::numbers::print_decimal` meets its contract. The invariant: the digits found, and those to come, are the number's.
+-- `print::numbers::print_decimal` meets its contract. The invariant: the digits to come, put where they belong, give what all of them give.
 use borrow.Author.Needs.{needs}
-use mathlib.Core.Path.{refl, sym}
+use mathlib.Core.Path.{_∙_}
 use native.Mathlib.Omega.{arith}
-use lib.ListN.{length-set}
-use Rattle.print.proofs.Texts.{as-written, as-room}
-use Rattle.print.proofs.ValueLaws.{Digits, digits-start, digits-some, digits-more, digits-last}
+use Rattle.laws.proofs.Decimal.{decimal-some}
+use Rattle.print.proofs.Texts.{text-passed, written-length}
+use Rattle.print.proofs.ValueLaws.{Digits, digits-start, digits-room, digits-length, digits-some, digits-more, digits-last}
 use Rattle.print.proofs.numbers.print_decimal.Statement.{statement}
 use Rattle.print.proofs.numbers.print_decimal.Tie as tie
 
 abbrev Inv-loop : tie.InvT-loop
-Inv-loop n buffer at digits₀ k₀ left₀ digits k left = Digits n digits k left
+Inv-loop n buffer₀ at end k₀ left₀ buffer k left = Digits n buffer₀ at buffer k left
 
 abbrev μ-loop : tie.MeasureT-loop
-μ-loop n buffer at digits₀ k₀ left₀ digits k left = left
+μ-loop n buffer₀ at end k₀ left₀ buffer k left = left
 
-loop-holds : tie.Need-loop-holds Inv-loop μ-loop
-loop-holds c = digits-start _ _ refl (c .before .fits .n .fits)
+decimal-length-requires : tie.Need-decimal-length-requires Inv-loop μ-loop
+decimal-length-requires c κs = search needs
+
+add-end : tie.Need-add-end Inv-loop μ-loop
+add-end c = omega (arith, c .decimal-length .ensures, c .before .before .pre .fits)
+
+returns : tie.Need-returns Inv-loop μ-loop
+returns c = rw (c .before .decimal-length .ensures) (text-passed _ _ _ (c .if1 .taken))
 
 sub-k : tie.Need-sub-k Inv-loop μ-loop
-sub-k c = omega (arith, digits-some (c .before .loop .inv))
+sub-k c = omega (arith, c .before .decimal-length .ensures, decimal-some (c .before .before .before .args .n))
 
-add-digits : tie.Need-add-digits Inv-loop μ-loop
-add-digits c = search needs
+loop-holds : tie.Need-loop-holds Inv-loop μ-loop
+loop-holds c = rw (c .before .decimal-length .ensures) (digits-start _ _ _)
 
-cast-digits : tie.Need-cast-digits Inv-loop μ-loop
-cast-digits c = omega arith
+add-put-byte : tie.Need-add-put-byte Inv-loop μ-loop
+add-put-byte c = search needs
 
-array-write-digits : tie.Need-array-write-digits Inv-loop μ-loop
-array-write-digits c = omega (arith, digits-some (c .before .loop .inv))
+cast-put-byte : tie.Need-cast-put-byte Inv-loop μ-loop
+cast-put-byte c = omega arith
+
+put-byte-requires : tie.Need-put-byte-requires Inv-loop μ-loop
+put-byte-requires c κs = digits-room (c .before .before .loop .inv) (c .before .before .before .before .before .before .pre)
+
+sub-k-2 : tie.Need-sub-k-2 Inv-loop μ-loop
+sub-k-2 c = digits-some (c .before .before .before .before .before .loop .inv) (c .before .before .before .before .loop-test .taken)
 
 loop-less : tie.Need-loop-less Inv-loop μ-loop
 loop-less c = omega arith
 
 loop-again : tie.Need-loop-again Inv-loop μ-loop
-loop-again c = digits-more (c .before .loop .inv) (c .loop-test .taken)
+loop-again c = digits-more (c .before .before .before .before .before .loop .inv) (c .before .before .before .before .loop-test .taken) (c .before .before .put-byte .ensures)
 
-sub-k-2 : tie.Need-sub-k-2 Inv-loop μ-loop
-sub-k-2 c = omega (arith, digits-some (c .before .loop .inv))
+add-put-byte-2 : tie.Need-add-put-byte-2 Inv-loop μ-loop
+add-put-byte-2 c = search needs
 
-add-digits-2 : tie.Need-add-digits-2 Inv-loop μ-loop
-add-digits-2 c = search needs
+cast-put-byte-2 : tie.Need-cast-put-byte-2 Inv-loop μ-loop
+cast-put-byte-2 c = omega arith
 
-cast-digits-2 : tie.Need-cast-digits-2 Inv-loop μ-loop
-cast-digits-2 c = omega arith
-
-array-write-digits-2 : tie.Need-array-write-digits-2 Inv-loop μ-loop
-array-write-digits-2 c = omega (arith, digits-some (c .before .loop .inv))
-
-sub-put-slice : tie.Need-sub-put-slice Inv-loop μ-loop
-sub-put-slice c = omega arith
-
-part-put-slice-start : tie.Need-part-put-slice-start Inv-loop μ-loop
-part-put-slice-start c = omega arith
-
-part-put-slice-end : tie.Need-part-put-slice-end Inv-loop μ-loop
-part-put-slice-end c = simp length-set (omega arith)
-
-put-slice-requires : tie.Need-put-slice-requires Inv-loop μ-loop
-put-slice-requires c κs = as-room (sym (digits-last (c .before .before .before .before .loop .inv) (c .before .before .before .loop-test .left))) (c .before .before .before .before .before .before .pre)
+put-byte-requires-2 : tie.Need-put-byte-requires-2 Inv-loop μ-loop
+put-byte-requires-2 c κs = digits-room (c .before .before .loop .inv) (c .before .before .before .before .before .before .pre)
 
 same-length : tie.Need-same-length Inv-loop μ-loop
-same-length c = search needs
+same-length c = written-length (c .before .before .put-byte2 .ensures) ∙ digits-length (c .before .before .before .before .before .loop .inv)
 
-returns : tie.Need-returns Inv-loop μ-loop
-returns c = as-written (digits-last (c .before .before .before .before .before .before .before .loop .inv) (c .before .before .before .before .before .before .loop-test .left)) (c .before .before .put-slice .ensures)
+returns-2 : tie.Need-returns-2 Inv-loop μ-loop
+returns-2 c = rw (c .before .before .before .before .before .before .before .decimal-length .ensures) (digits-last (c .before .before .before .before .before .loop .inv) (c .before .before .before .before .loop-test .left) (c .before .before .put-byte2 .ensures))
 
 pub print-decimal-spec : {M : Type 1} → statement M
 print-decimal-spec =
@@ -71,20 +68,19 @@ print-decimal-spec =
     (tie.spec
     Inv-loop
     μ-loop
-    loop-holds
+    decimal-length-requires
+    add-end
+    returns
     sub-k
-    add-digits
-    cast-digits
-    array-write-digits
+    loop-holds
+    add-put-byte
+    cast-put-byte
+    put-byte-requires
+    sub-k-2
     loop-less
     loop-again
-    sub-k-2
-    add-digits-2
-    cast-digits-2
-    array-write-digits-2
-    sub-put-slice
-    part-put-slice-start
-    part-put-slice-end
-    put-slice-requires
+    add-put-byte-2
+    cast-put-byte-2
+    put-byte-requires-2
     same-length
-    returns)
+    returns-2)
