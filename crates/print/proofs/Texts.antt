@@ -76,6 +76,12 @@ room-then t u h f = record { fits = omega (arith, h .fits, f .ends, length-appen
 pub one-more : {a b c : List ℕ} {at p r : ℕ} (t : List ℕ) (i : ℕ) → i < length t → Written a at (take i t) b p → Written b p (getD t i 0 ∷ []) c r → Written a at (take (i + 1) t) c r
 one-more t i h f g = as-written (sym (rw (add-one i) (take-suc t i 0 h))) (then-written f g)
 
+pub one-stored : {a b : List ℕ} {at : ℕ} (t : List ℕ) (i : ℕ) → i < length t → Written a at (take i t) b (at + i)
+    → Written a at (take (i + 1) t) (set b (at + i) (getD t i 0)) (at + (i + 1))
+one-stored {a} {b} {at} t i h f =
+    let more = one-more t i h f (byte-written b (at + i) (getD t i 0)) in
+    record { ends = omega (arith, more .ends); holds = more .holds }
+
 pub all-written : {a b : List ℕ} {at r : ℕ} (t : List ℕ) (i : ℕ) → length t ≤ i → Written a at (take i t) b r → Written a at t b r
 all-written t i h f = as-written (take-all i t h) f
 

@@ -1,5 +1,7 @@
 // Bytes that are put into the lent buffer, as far as there is room.
+ghost use Prim.Native.Nat.{_+_, _≤_};
 ghost use mathlib.Core.List.{[], _∷_};
+ghost use lib.ListN.{length};
 ghost use Rattle.print.specs.Written.{Written, Room};
 
 pub fn put_byte(byte: u8, buffer: &mut [u8], at: usize) -> usize
@@ -12,7 +14,21 @@ pub fn put_byte(byte: u8, buffer: &mut [u8], at: usize) -> usize
     at + 1
 }
 
-pub fn put_slice(text: &[u8], buffer: &mut [u8], at: usize) -> usize
+// A text that the buffer has room for.
+fn put_whole(text: &[u8], buffer: &mut [u8], at: usize) -> usize
+    requires { ⌜ Room at (now text) × (at + length (now text) ≤ length (now buffer)) ⌝ }
+    ensures { λ r. ⌜ Written (now (buffer .entry)) at (now (text .entry)) (now (buffer .exit)) r ⌝ }
+{
+    let mut i = 0;
+    while i < text.len() {
+        buffer[at + i] = text[i];
+        i += 1;
+    }
+    at + i
+}
+
+// A text of which the buffer may end in the middle.
+fn put_clipped(text: &[u8], buffer: &mut [u8], at: usize) -> usize
     requires { ⌜ Room at (now text) ⌝ }
     ensures { λ r. ⌜ Written (now (buffer .entry)) at (now (text .entry)) (now (buffer .exit)) r ⌝ }
 {
@@ -23,4 +39,18 @@ pub fn put_slice(text: &[u8], buffer: &mut [u8], at: usize) -> usize
         i += 1;
     }
     after
+}
+
+pub fn put_slice(text: &[u8], buffer: &mut [u8], at: usize) -> usize
+    requires { ⌜ Room at (now text) ⌝ }
+    ensures { λ r. ⌜ Written (now (buffer .entry)) at (now (text .entry)) (now (buffer .exit)) r ⌝ }
+{
+    let end = at + text.len();
+    if buffer.len() <= at {
+        return end;
+    }
+    if buffer.len() < end {
+        return put_clipped(text, buffer, at);
+    }
+    put_whole(text, buffer, at)
 }

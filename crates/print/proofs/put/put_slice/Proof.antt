@@ -1,53 +1,42 @@
--- `print::put::put_slice` meets its contract. The invariant: the bytes passed are written.
+-- `print::put::put_slice` meets its contract.
 use borrow.Author.Needs.{needs}
-use Prim.Native.Nat.{_≤_, _-_}
-use lib.ListN.{length, take}
-use Rattle.print.specs.Written.{Written}
-use Rattle.print.proofs.Texts.{none-written, one-more, one-room, all-written, written-length}
+use Rattle.print.proofs.Texts.{text-passed}
 use Rattle.print.proofs.put.put_slice.Statement.{statement}
 use Rattle.print.proofs.put.put_slice.Tie as tie
 
-abbrev Inv-loop : tie.InvT-loop
-Inv-loop text buffer₀ at after₀ i₀ buffer after i = (i ≤ length text) × Written buffer₀ at (take i text) buffer after
+add-end : tie.Need-add-end
+add-end c = search needs
 
-abbrev μ-loop : tie.MeasureT-loop
-μ-loop text buffer₀ at after₀ i₀ buffer after i = length text - i
+returns : tie.Need-returns
+returns c = text-passed _ _ _ (c .if1 .taken)
 
-loop-holds : tie.Need-loop-holds Inv-loop μ-loop
-loop-holds c = (search needs, none-written _ _)
+put-clipped-requires : tie.Need-put-clipped-requires
+put-clipped-requires c κs = search needs
 
-shared-slice-read-put-byte : tie.Need-shared-slice-read-put-byte Inv-loop μ-loop
-shared-slice-read-put-byte c = search needs
+same-length : tie.Need-same-length
+same-length c = search needs
 
-put-byte-requires : tie.Need-put-byte-requires Inv-loop μ-loop
-put-byte-requires c κs = one-room _ _ (c .before .before .loop-test .taken) (c .before .before .before .before .before .before .pre) (c .before .before .before .loop .inv .1)
+returns-2 : tie.Need-returns-2
+returns-2 c = search needs
 
-add-i : tie.Need-add-i Inv-loop μ-loop
-add-i c = search needs
+put-whole-requires : tie.Need-put-whole-requires
+put-whole-requires c κs = search needs
 
-loop-less : tie.Need-loop-less Inv-loop μ-loop
-loop-less c = search needs
+same-length-2 : tie.Need-same-length-2
+same-length-2 c = search needs
 
-loop-again : tie.Need-loop-again Inv-loop μ-loop
-loop-again c = (search needs, one-more _ _ (c .before .before .before .before .before .loop-test .taken) (c .before .before .before .before .before .before .loop .inv .1) (c .before .before .put-byte .ensures))
-
-same-length : tie.Need-same-length Inv-loop μ-loop
-same-length c = written-length (c .before .loop .inv .1)
-
-returns : tie.Need-returns Inv-loop μ-loop
-returns c = all-written _ _ (c .loop-test .left) (c .before .loop .inv .1)
+returns-3 : tie.Need-returns-3
+returns-3 c = search needs
 
 pub put-slice-spec : {M : Type 1} → statement M
 put-slice-spec =
     tie.close
     (tie.spec
-    Inv-loop
-    μ-loop
-    loop-holds
-    shared-slice-read-put-byte
-    put-byte-requires
-    add-i
-    loop-less
-    loop-again
+    add-end
+    returns
+    put-clipped-requires
     same-length
-    returns)
+    returns-2
+    put-whole-requires
+    same-length-2
+    returns-3)
