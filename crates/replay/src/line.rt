@@ -1,5 +1,5 @@
-// The words of a line, and the input that lines are taken from.
-ghost use Prim.Native.Nat.{_+_, _≤_};
+// Finding a byte, and copying.
+ghost use Prim.Native.Nat.{_≤_};
 ghost use lib.ListN.{length};
 
 // The index of the first b between `from` and `end`, or the end where there is none.
@@ -12,20 +12,6 @@ pub fn find(s: &[u8], from: usize, end: usize, b: u8) -> usize
         i += 1;
     }
     i
-}
-
-// Copies the n bytes of s from `from` on to its front.
-pub fn shift(s: &mut [u8], from: usize, n: usize)
-    requires { ⌜ from + n ≤ length (now s) ⌝ }
-{
-    if from == 0 {
-        return;
-    }
-    let mut i = 0;
-    while i < n {
-        s[i] = s[from + i];
-        i += 1;
-    }
 }
 
 pub fn least(a: usize, b: usize) -> usize
@@ -43,6 +29,36 @@ pub fn copy(from: &[u8], to: &mut [u8]) -> usize
     let mut i = 0;
     while i < n {
         to[i] = from[i];
+        i += 1;
+    }
+    n
+}
+
+pub fn copy_words(from: &[u32], to: &mut [u32]) -> usize
+    ensures { λ r. ⌜ r ≤ length (now (to .entry)) ⌝ }
+{
+    let n = least(from.len(), to.len());
+    let mut i = 0;
+    while i < n {
+        to[i] = from[i];
+        i += 1;
+    }
+    n
+}
+
+fn word(a: u8, b: u8, c: u8, d: u8) -> u32 {
+    (a as u32) * 16777216 + (b as u32) * 65536 + (c as u32) * 256 + (d as u32)
+}
+
+// The words that four bytes each make, most significant byte first, at the front of another slice, as many as it holds.
+pub fn join(from: &[u8], to: &mut [u32]) -> usize
+    ensures { λ r. ⌜ r ≤ length (now (to .entry)) ⌝ }
+{
+    let n = least(from.len() / 4, to.len());
+    let mut i = 0;
+    while i < n {
+        let k = 4 * i;
+        to[i] = word(from[k], from[k + 1], from[k + 2], from[k + 3]);
         i += 1;
     }
     n

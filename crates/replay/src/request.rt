@@ -1,199 +1,95 @@
-// The requests of the line protocol, one to a line, and the state between them.
-use crate::hex;
-use crate::hex::Spelled;
-use crate::line;
-use crate::number;
-use crate::number::Number;
-use crate::text;
-ghost use Prim.Native.Nat.{_≤_};
+// The requests of the line protocol, one to a line.
+use crate::asking;
+use crate::asking::Told;
+use crate::reading;
+use crate::setting;
+use crate::state;
+use crate::state::Answer;
+use crate::state::State;
+ghost use Prim.Native.Nat.{_≤_, _<_};
 ghost use lib.ListN.{length};
+ghost use Rattle.replay.specs.Fits.{Fits};
 
-// The schema image's length in its room, and the root.
-pub struct State {
-    pub image: usize,
-    pub root: usize,
-}
-
-// What a request leaves: the state, whether the line was a request, and how much of the buffer is to be written.
-pub struct Answer {
-    pub state: State,
-    pub is_request: bool,
-    pub at: usize,
-}
-
-fn done(state: State, at: usize) -> Answer
-    ensures { λ r. ⌜ r .state .image ≤ state .image ⌝ }
-{
-    Answer {
-        state,
-        is_request: true,
-        at,
+fn is_asking(letter: u8) -> bool {
+    match letter {
+        b'C' => true,
+        b'Y' => true,
+        b'A' => true,
+        _ => false,
     }
 }
 
-fn none(state: State) -> Answer
-    ensures { λ r. ⌜ r .state .image ≤ state .image ⌝ }
-{
-    Answer {
-        state,
-        is_request: false,
-        at: 0,
-    }
-}
-
-// `S HEX`. No image longer than its room can be accepted, nor can such a one cut at the room's end.
-fn schema(line: &mut [u8], image: &mut [u8], state: State) -> Answer
-    requires { ⌜ state .image ≤ length (now image) ⌝ }
-    ensures { λ r. ⌜ r .state .image ≤ length (now (image .entry)) ⌝ }
-{
-    let Spelled::Bytes(n) = hex::decode(line) else {
-        return none(state);
-    };
-    let length = line::copy(&line[..n], image);
-    let root = state.root;
-    done(
-        State {
-            image: length,
-            root,
-        },
-        0,
-    )
-}
-
-// `R N`
-fn root(line: &[u8], state: State) -> Answer
-    ensures { λ r. ⌜ r .state .image ≤ state .image ⌝ }
-{
-    let Number::Is(n) = number::decimal(line) else {
-        return none(state);
-    };
-    let image = state.image;
-    done(State { image, root: n }, 0)
-}
-
-// What is left of `T WORDS BYTES HEX` after BYTES.
-fn read_text(
-    buf: &mut [u8],
-    line: &mut [u8],
-    image: &[u8],
-    nodes: &mut [u32],
-    pool: &mut [u8],
-    state: State,
-) -> Answer
-    ensures { λ r. ⌜ r .state .image ≤ state .image ⌝ }
-{
-    let Spelled::Bytes(n) = hex::decode(line) else {
-        return none(state);
-    };
-    let root = state.root;
-    let at = text::read(buf, image, root, &line[..n], nodes, pool);
-    done(state, at)
-}
-
-// What is left of `T WORDS BYTES HEX` after WORDS.
-fn read_bytes(
-    buf: &mut [u8],
-    line: &mut [u8],
-    image: &[u8],
-    nodes: &mut [u32],
-    pool: &mut [u8],
-    state: State,
-) -> Answer
-    ensures { λ r. ⌜ r .state .image ≤ state .image ⌝ }
-{
-    let end = line::find(line, 0, line.len(), b' ');
-    if end == line.len() {
-        return none(state);
-    }
-    let Number::Is(bytes) = number::decimal(&line[..end]) else {
-        return none(state);
-    };
-    if bytes > pool.len() {
-        return none(state);
-    }
-    let start = end + 1;
-    read_text(
-        buf,
-        &mut line[start..],
-        image,
-        nodes,
-        &mut pool[..bytes],
-        state,
-    )
-}
-
-// `T WORDS BYTES HEX`
-fn read(
-    buf: &mut [u8],
-    line: &mut [u8],
-    image: &[u8],
-    nodes: &mut [u32],
-    pool: &mut [u8],
-    state: State,
-) -> Answer
-    ensures { λ r. ⌜ r .state .image ≤ state .image ⌝ }
-{
-    let end = line::find(line, 0, line.len(), b' ');
-    if end == line.len() {
-        return none(state);
-    }
-    let Number::Is(words) = number::decimal(&line[..end]) else {
-        return none(state);
-    };
-    if words > nodes.len() {
-        return none(state);
-    }
-    let start = end + 1;
-    read_bytes(
-        buf,
-        &mut line[start..],
-        image,
-        &mut nodes[..words],
-        pool,
-        state,
-    )
-}
-
-// A request whose letter is followed by a space and `line`.
-fn with_words(
+// A request that leaves the state as it is.
+fn asked(
     letter: u8,
     buf: &mut [u8],
     line: &mut [u8],
-    image: &mut [u8],
-    nodes: &mut [u32],
-    pool: &mut [u8],
+    end: usize,
+    image: &[u8],
+    table: &[u32],
+    pool: &[u8],
     state: State,
 ) -> Answer
-    requires { ⌜ state .image ≤ length (now image) ⌝ }
-    ensures { λ r. ⌜ r .state .image ≤ length (now (image .entry)) ⌝ }
+    requires { ⌜ end ≤ length (now line) ⌝ }
+    requires { ⌜ Fits state (length (now image)) (length (now table)) (length (now pool)) ⌝ }
+    ensures { λ r. ⌜ Fits (r .state) (state .image) (state .table) (state .pool) ⌝ }
 {
-    let length = state.image;
-    match letter {
-        b'S' => schema(line, image, state),
-        b'R' => root(line, state),
-        b'T' => read(buf, line, &image[..length], nodes, pool, state),
-        _ => none(state),
-    }
+    let schema = state.image;
+    let root = state.root;
+    let words = state.table;
+    let bytes = state.pool;
+    let Told::Answer(at) = asking::ask(
+        letter,
+        buf,
+        line,
+        end,
+        &image[..schema],
+        root,
+        &table[..words],
+        &pool[..bytes],
+    ) else {
+        return state::none(state);
+    };
+    state::done(state, at)
 }
 
-// A line that is neither blank nor begins with `#`.
+// The line that ends at `end` and is neither blank nor begins with `#`. Its room is longer, and lent to the prints.
 pub fn request(
     buf: &mut [u8],
     line: &mut [u8],
+    end: usize,
     image: &mut [u8],
-    nodes: &mut [u32],
+    table: &mut [u32],
     pool: &mut [u8],
+    words: &mut [u32],
+    bytes: &mut [u8],
     state: State,
 ) -> Answer
-    requires { ⌜ state .image ≤ length (now image) ⌝ }
-    ensures { λ r. ⌜ r .state .image ≤ length (now (image .entry)) ⌝ }
+    requires { ⌜ (0 < end) × (end ≤ length (now line)) ⌝ }
+    requires { ⌜ Fits state (length (now image)) (length (now table)) (length (now pool)) ⌝ }
+    ensures { λ r. ⌜ Fits (r .state) (length (now (image .entry))) (length (now (table .entry))) (length (now (pool .entry))) ⌝ }
 {
-    if line.len() < 2 {
-        return none(state);
+    let letter = line[0];
+    if end < 2 {
+        return asked(letter, buf, line, end, image, table, pool, state);
     }
     if line[1] != b' ' {
-        return none(state);
+        return state::none(state);
     }
-    let letter = line[0];
-    with_words(letter, buf, &mut line[2..], image, nodes, pool, state)
+    if is_asking(letter) {
+        return asked(letter, buf, line, end, image, table, pool, state);
+    }
+    if letter == b'T' {
+        return reading::read(
+            buf,
+            &mut line[2..end],
+            image,
+            table,
+            pool,
+            words,
+            bytes,
+            state,
+        );
+    }
+    setting::set(letter, &mut line[2..end], image, table, pool, state)
 }

@@ -2,18 +2,20 @@
 use crate::line;
 use crate::out;
 use crate::request;
-use crate::request::State;
+use crate::state::State;
 use libc::STDIN_FILENO;
 ghost use Prim.Native.Nat.{_≤_};
 ghost use lib.ListN.{length};
+ghost use Rattle.replay.specs.Fits.{Fits};
 ghost use Rattle.replay.specs.Held.{Held};
 
-// Where the work stands. Of the input's room the bytes from start to end are read and not yet answered, and count lines are
-// answered. `is_long` where the line that begins at start filled the room, and bytes of it were dropped.
+// Where the work stands. Of the input's room the bytes from start to end are read and in no line yet, the line's room holds length
+// bytes of the next line, and count lines are answered. `is_long` where the line went over its room, and bytes of it were dropped.
 pub struct Session {
     pub state: State,
     pub start: usize,
     pub end: usize,
+    pub length: usize,
     pub count: usize,
     pub is_long: bool,
     pub is_over: bool,
@@ -27,18 +29,22 @@ fn tell_no_request(buf: &mut [u8], count: usize) {
 // Answers the session's next line, and writes the answer. A line longer than the room is no request.
 fn answer_line(
     buf: &mut [u8],
-    image: &mut [u8],
-    nodes: &mut [u32],
-    pool: &mut [u8],
     line: &mut [u8],
+    image: &mut [u8],
+    table: &mut [u32],
+    pool: &mut [u8],
+    words: &mut [u32],
+    bytes: &mut [u8],
     session: Session,
 ) -> State
-    requires { ⌜ session .state .image ≤ length (now image) ⌝ }
-    ensures { λ r. ⌜ r .image ≤ length (now (image .entry)) ⌝ }
+    requires { ⌜ session .length ≤ length (now line) ⌝ }
+    requires { ⌜ Fits (session .state) (length (now image)) (length (now table)) (length (now pool)) ⌝ }
+    ensures { λ r. ⌜ Fits r (length (now (image .entry))) (length (now (table .entry))) (length (now (pool .entry))) ⌝ }
 {
     let state = session.state;
+    let end = session.length;
     let count = std::num::wrapping_add_usize(session.count, 1);
-    if line.len() == 0 {
+    if end == 0 {
         return state;
     }
     if line[0] == b'#' {
@@ -48,7 +54,7 @@ fn answer_line(
         tell_no_request(buf, count);
         return state;
     }
-    let told = request::request(buf, line, image, nodes, pool, state);
+    let told = request::request(buf, line, end, image, table, pool, words, bytes, state);
     let after = told.state;
     if told.is_request {
         out::flush(buf, told.at);
@@ -58,77 +64,75 @@ fn answer_line(
     after
 }
 
-fn read_some(s: &mut [u8]) -> usize
-    ensures { λ r. ⌜ r ≤ length (now (s .entry)) ⌝ }
+// Reads on, where no line ends in what was read before.
+fn refill(input: &mut [u8], session: Session) -> Session
+    ensures { λ r. ⌜ Held r (length (now (input .entry))) (session .length) ⌝ }
+    ensures { λ r. ⌜ Fits (r .state) (session .state .image) (session .state .table) (session .state .pool) ⌝ }
 {
-    let got = libc::read(STDIN_FILENO, s);
-    io::count(got, s)
-}
-
-// Reads into the room from n on, and answers where the input then ends.
-fn read_on(room: &mut [u8], n: usize) -> usize
-    requires { ⌜ n ≤ length (now room) ⌝ }
-    ensures { λ r. ⌜ r ≤ length (now (room .entry)) ⌝ }
-{
-    n + read_some(&mut room[n..])
-}
-
-// Moves what is not yet answered to the room's front, and reads on after it. Of a line that fills the room the first byte is
-// kept, which tells whether it is passed over.
-fn refill(room: &mut [u8], session: Session) -> Session
-    requires { ⌜ Held session (length (now room)) (session .state .image) ⌝ }
-    ensures { λ r. ⌜ Held r (length (now (room .entry))) (session .state .image) ⌝ }
-{
-    let start = session.start;
-    let n = session.end - start;
-    let state = session.state;
-    if n == room.len() {
-        let kept = line::least(n, 1);
-        let end = read_on(room, kept);
-        return Session {
-            state,
-            start: 0,
-            end,
-            count: session.count,
-            is_long: true,
-            is_over: end == kept,
-        };
-    }
-    line::shift(room, start, n);
-    let end = read_on(room, n);
+    let got = libc::read(STDIN_FILENO, input);
+    let end = io::count(got, input);
     Session {
-        state,
+        state: session.state,
         start: 0,
         end,
+        length: session.length,
         count: session.count,
         is_long: session.is_long,
-        is_over: end == n,
+        is_over: end == 0,
     }
 }
 
-// Answers the next line, or reads on where the input's room has no whole line.
+// The session with the line's bytes up to stop in the line's room, as many as it holds.
+fn take(input: &[u8], line: &mut [u8], session: Session, stop: usize) -> Session
+    requires { ⌜ (session .start ≤ stop) × (stop ≤ length (now input)) ⌝ }
+    requires { ⌜ session .length ≤ length (now line) ⌝ }
+    ensures { λ r. ⌜ r .length ≤ length (now (line .entry)) ⌝ }
+    ensures { λ r. ⌜ Fits (r .state) (session .state .image) (session .state .table) (session .state .pool) ⌝ }
+{
+    let start = session.start;
+    let length = session.length;
+    let n = line::copy(&input[start..stop], &mut line[length..]);
+    Session {
+        state: session.state,
+        start: stop,
+        end: session.end,
+        length: length + n,
+        count: session.count,
+        is_long: session.is_long || n < stop - start,
+        is_over: false,
+    }
+}
+
+// Answers the next line, or reads on where the input's room has no end of a line.
 fn next(
     buf: &mut [u8],
+    input: &mut [u8],
+    line: &mut [u8],
     image: &mut [u8],
-    nodes: &mut [u32],
+    table: &mut [u32],
     pool: &mut [u8],
-    room: &mut [u8],
+    words: &mut [u32],
+    bytes: &mut [u8],
     session: Session,
 ) -> Session
-    requires { ⌜ Held session (length (now room)) (length (now image)) ⌝ }
-    ensures { λ r. ⌜ Held r (length (now (room .entry))) (length (now (image .entry))) ⌝ }
+    requires { ⌜ Held session (length (now input)) (length (now line)) ⌝ }
+    requires { ⌜ Fits (session .state) (length (now image)) (length (now table)) (length (now pool)) ⌝ }
+    ensures { λ r. ⌜ Held r (length (now (input .entry))) (length (now (line .entry))) ⌝ }
+    ensures { λ r. ⌜ Fits (r .state) (length (now (image .entry))) (length (now (table .entry))) (length (now (pool .entry))) ⌝ }
 {
     let start = session.start;
     let end = session.end;
-    let stop = line::find(room, start, end, b'\n');
+    let stop = line::find(input, start, end, b'\n');
+    let taken = take(input, line, session, stop);
     if stop == end {
-        return refill(room, session);
+        return refill(input, taken);
     }
-    let state = answer_line(buf, image, nodes, pool, &mut room[start..stop], session);
+    let state = answer_line(buf, line, image, table, pool, words, bytes, taken);
     Session {
         state,
         start: stop + 1,
         end,
+        length: 0,
         count: std::num::wrapping_add_usize(session.count, 1),
         is_long: false,
         is_over: false,
@@ -137,11 +141,18 @@ fn next(
 
 fn begun() -> Session
     ensures { λ r. ⌜ Held r 0 0 ⌝ }
+    ensures { λ r. ⌜ Fits (r .state) 0 0 0 ⌝ }
 {
     Session {
-        state: State { image: 0, root: 0 },
+        state: State {
+            image: 0,
+            root: 0,
+            table: 0,
+            pool: 0,
+        },
         start: 0,
         end: 0,
+        length: 0,
         count: 0,
         is_long: false,
         is_over: false,
@@ -152,20 +163,19 @@ fn begun() -> Session
 // number that no run uses up.
 pub fn answer_all(
     buf: &mut [u8],
+    input: &mut [u8],
+    line: &mut [u8],
     image: &mut [u8],
-    nodes: &mut [u32],
+    table: &mut [u32],
     pool: &mut [u8],
-    room: &mut [u8],
+    words: &mut [u32],
+    bytes: &mut [u8],
 ) {
     let mut session = begun();
     let mut turns = u64::MAX;
     while turns > 0 && !session.is_over {
-        session = next(buf, image, nodes, pool, room, session);
+        session = next(buf, input, line, image, table, pool, words, bytes, session);
         turns -= 1;
     }
-    let start = session.start;
-    let end = session.end;
-    if start < end {
-        answer_line(buf, image, nodes, pool, &mut room[start..end], session);
-    }
+    answer_line(buf, line, image, table, pool, words, bytes, session);
 }

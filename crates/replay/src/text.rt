@@ -2,6 +2,8 @@
 use crate::line;
 use crate::out;
 use parse::Read;
+ghost use Prim.Native.Nat.{_≤_};
+ghost use lib.ListN.{length};
 
 // What every word and byte of a room holds before a call.
 const WORD: u32 = 0xa5a5a5a5;
@@ -36,7 +38,7 @@ fn kept_words(s: &[u32], from: usize) -> bool {
     true
 }
 
-fn kept_bytes(s: &[u8], from: usize) -> bool {
+pub fn kept_bytes(s: &[u8], from: usize) -> bool {
     let mut i = from;
     while i < s.len() {
         if s[i] != BYTE {
@@ -54,8 +56,18 @@ fn kept(nodes: &[u32], words: usize, pool: &[u8], bytes: usize) -> bool {
     false
 }
 
+// What a read came to: how much of the buffer is to be written, and where a table was made, its words and its pool's bytes.
+pub struct Made {
+    pub is_made: bool,
+    pub at: usize,
+    pub words: usize,
+    pub bytes: usize,
+}
+
 // `T 0 0 NODES POOLBYTES WORDSHEX POOLHEX KEPT`. Where a count went over its room, what is there is told.
-fn made(buf: &mut [u8], nodes: &[u32], pool: &[u8], count: usize, used: usize) -> usize {
+fn made(buf: &mut [u8], nodes: &[u32], pool: &[u8], count: usize, used: usize) -> Made
+    ensures { λ r. ⌜ (r .words ≤ length (now (nodes .entry))) × (r .bytes ≤ length (now (pool .entry))) ⌝ }
+{
     let words = line::least(count, nodes.len() / 5) * 5;
     let bytes = line::least(used, pool.len());
     let a = out::bytes(buf, 0, b"T 0 0");
@@ -63,15 +75,29 @@ fn made(buf: &mut [u8], nodes: &[u32], pool: &[u8], count: usize, used: usize) -
     let c = out::number(buf, b, used);
     let d = out::hex_words(buf, c, &nodes[..words]);
     let e = out::hex(buf, d, &pool[..bytes]);
-    out::kept(buf, e, kept(nodes, words, pool, bytes))
+    let at = out::kept(buf, e, kept(nodes, words, pool, bytes));
+    Made {
+        is_made: true,
+        at,
+        words,
+        bytes,
+    }
 }
 
 // `T NO AT KEPT`
-fn refused(buf: &mut [u8], nodes: &[u32], pool: &[u8], no: usize, at: usize) -> usize {
+fn refused(buf: &mut [u8], nodes: &[u32], pool: &[u8], no: usize, place: usize) -> Made
+    ensures { λ r. ⌜ (r .words ≤ 0) × (r .bytes ≤ 0) ⌝ }
+{
     let a = out::byte(buf, 0, b'T');
     let b = out::number(buf, a, no);
-    let c = out::number(buf, b, at);
-    out::kept(buf, c, kept(nodes, 0, pool, 0))
+    let c = out::number(buf, b, place);
+    let at = out::kept(buf, c, kept(nodes, 0, pool, 0));
+    Made {
+        is_made: false,
+        at,
+        words: 0,
+        bytes: 0,
+    }
 }
 
 // Reads the text into just these rooms, and tells what came of it.
@@ -82,7 +108,9 @@ pub fn read(
     text: &[u8],
     nodes: &mut [u32],
     pool: &mut [u8],
-) -> usize {
+) -> Made
+    ensures { λ r. ⌜ (r .words ≤ length (now (nodes .entry))) × (r .bytes ≤ length (now (pool .entry))) ⌝ }
+{
     fill_words(nodes);
     fill_bytes(pool);
     match text_format::read(schema, root, text, nodes, pool) {

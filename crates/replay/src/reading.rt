@@ -1,0 +1,120 @@
+// The request T: `line` is what follows the letter and a space.
+use crate::hex;
+use crate::hex::Spelled;
+use crate::line;
+use crate::number;
+use crate::number::Number;
+use crate::state;
+use crate::state::Answer;
+use crate::state::State;
+use crate::text;
+ghost use Prim.Native.Nat.{_≤_};
+ghost use lib.ListN.{length};
+ghost use Rattle.replay.specs.Fits.{Fits};
+
+// A number that a space ends, where the line begins with one, and where the next word begins.
+struct Leading {
+    is_number: bool,
+    n: usize,
+    next: usize,
+}
+
+fn leading(line: &[u8]) -> Leading
+    ensures { λ r. ⌜ r .next ≤ length (now (line .entry)) ⌝ }
+{
+    let end = line::find(line, 0, line.len(), b' ');
+    if end == line.len() {
+        return Leading {
+            is_number: false,
+            n: 0,
+            next: 0,
+        };
+    }
+    let Number::Is(n) = number::decimal(&line[..end]) else {
+        return Leading {
+            is_number: false,
+            n: 0,
+            next: 0,
+        };
+    };
+    Leading {
+        is_number: true,
+        n,
+        next: end + 1,
+    }
+}
+
+// Reads the text that the line spells into just these words and bytes. What is read becomes the state's table and pool.
+fn read_text(
+    buf: &mut [u8],
+    line: &mut [u8],
+    image: &[u8],
+    table: &mut [u32],
+    pool: &mut [u8],
+    words: &mut [u32],
+    bytes: &mut [u8],
+    state: State,
+) -> Answer
+    requires { ⌜ Fits state (length (now image)) (length (now table)) (length (now pool)) ⌝ }
+    ensures { λ r. ⌜ Fits (r .state) (length (now (image .entry))) (length (now (table .entry))) (length (now (pool .entry))) ⌝ }
+{
+    let Spelled::Bytes(n) = hex::decode(line) else {
+        return state::none(state);
+    };
+    let length = state.image;
+    let root = state.root;
+    let made = text::read(buf, &image[..length], root, &line[..n], words, bytes);
+    if !made.is_made {
+        return state::done(state, made.at);
+    }
+    let count = made.words;
+    let used = made.bytes;
+    let mut next = state;
+    next.table = line::copy_words(&words[..count], table);
+    next.pool = line::copy(&bytes[..used], pool);
+    state::done(next, made.at)
+}
+
+// `T WORDS BYTES HEX`. More words or bytes than there are to lend is no request.
+pub fn read(
+    buf: &mut [u8],
+    line: &mut [u8],
+    image: &[u8],
+    table: &mut [u32],
+    pool: &mut [u8],
+    words: &mut [u32],
+    bytes: &mut [u8],
+    state: State,
+) -> Answer
+    requires { ⌜ Fits state (length (now image)) (length (now table)) (length (now pool)) ⌝ }
+    ensures { λ r. ⌜ Fits (r .state) (length (now (image .entry))) (length (now (table .entry))) (length (now (pool .entry))) ⌝ }
+{
+    let first = leading(line);
+    let start = first.next;
+    let second = leading(&line[start..]);
+    if !first.is_number {
+        return state::none(state);
+    }
+    if !second.is_number {
+        return state::none(state);
+    }
+    let count = first.n;
+    let room = second.n;
+    if count > words.len() {
+        return state::none(state);
+    }
+    if room > bytes.len() {
+        return state::none(state);
+    }
+    let from = start + second.next;
+    read_text(
+        buf,
+        &mut line[from..],
+        image,
+        table,
+        pool,
+        &mut words[..count],
+        &mut bytes[..room],
+        state,
+    )
+}
