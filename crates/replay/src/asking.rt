@@ -23,6 +23,12 @@ fn begun(buf: &mut [u8], letter: u8, no: usize, place: usize) -> usize {
     out::number(buf, b, place)
 }
 
+// The same as a whole line.
+fn refused(buf: &mut [u8], letter: u8, no: usize, place: usize) -> usize {
+    let at = begun(buf, letter, no, place);
+    out::byte(buf, at, b'\n')
+}
+
 // `C 0 0 LENGTH HEX KEPT`. Where the length went over the room, what is there is told.
 fn printed(buf: &mut [u8], letter: u8, room: &[u8], length: usize) -> usize {
     let n = line::least(length, room.len());
@@ -71,11 +77,10 @@ fn print(
 
 // `Q NO AT`
 fn required(buf: &mut [u8], image: &[u8], root: usize, table: &[u32], pool: &[u8]) -> usize {
-    let at = match text_format::check_required(image, root, table, pool) {
-        Checked::Complete => begun(buf, b'Q', 0, 0),
-        Checked::No(no, place) => begun(buf, b'Q', no as usize, place.offset),
-    };
-    out::byte(buf, at, b'\n')
+    if let Checked::No(no, place) = text_format::check_required(image, root, table, pool) {
+        return refused(buf, b'Q', no as usize, place.offset);
+    }
+    refused(buf, b'Q', 0, 0)
 }
 
 // `A 0 0 HEX` or `A NO AT`
@@ -88,8 +93,7 @@ fn access(
     node: usize,
 ) -> usize {
     if let Valued::No(no, place) = text_format::value_number(image, root, table, pool, node) {
-        let at = begun(buf, b'A', no as usize, place.offset);
-        return out::byte(buf, at, b'\n');
+        return refused(buf, b'A', no as usize, place.offset);
     }
     let a = begun(buf, b'A', 0, 0);
     let b = out::hex(

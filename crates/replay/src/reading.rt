@@ -13,39 +13,81 @@ ghost use lib.ListN.{length};
 ghost use Rattle.replay.specs.Fits.{Fits};
 
 // A number that a space ends, where the line begins with one, and where the next word begins.
-struct Leading {
+struct Ended {
     is_number: bool,
     n: usize,
     next: usize,
 }
 
-fn leading(line: &[u8]) -> Leading
+fn leading(line: &[u8]) -> Ended
     ensures { λ r. ⌜ r .next ≤ length (now (line .entry)) ⌝ }
 {
     let end = line::find(line, 0, line.len(), b' ');
     if end == line.len() {
-        return Leading {
+        return Ended {
             is_number: false,
             n: 0,
             next: 0,
         };
     }
     let Number::Is(n) = number::decimal(&line[..end]) else {
-        return Leading {
+        return Ended {
             is_number: false,
             n: 0,
             next: 0,
         };
     };
-    Leading {
+    Ended {
         is_number: true,
         n,
         next: end + 1,
     }
 }
 
-// Reads the text that the line spells into just these words and bytes. What is read becomes the state's table and pool.
+// Makes these words and bytes the state's table and pool.
+fn store(
+    table: &mut [u32],
+    pool: &mut [u8],
+    words: &[u32],
+    bytes: &[u8],
+    state: State,
+    at: usize,
+) -> Answer
+    ensures { λ r. ⌜ Fits (r .state) (state .image) (length (now (table .entry))) (length (now (pool .entry))) ⌝ }
+{
+    let mut next = state;
+    next.table = line::copy_words(words, table);
+    next.pool = line::copy(bytes, pool);
+    state::done(next, at)
+}
+
+// Reads the text into just these words and bytes. What is read becomes the state's table and pool.
 fn read_text(
+    buf: &mut [u8],
+    text: &[u8],
+    image: &[u8],
+    table: &mut [u32],
+    pool: &mut [u8],
+    words: &mut [u32],
+    bytes: &mut [u8],
+    state: State,
+) -> Answer
+    requires { ⌜ Fits state (length (now image)) (length (now table)) (length (now pool)) ⌝ }
+    ensures { λ r. ⌜ Fits (r .state) (length (now (image .entry))) (length (now (table .entry))) (length (now (pool .entry))) ⌝ }
+{
+    let length = state.image;
+    let root = state.root;
+    let made = text::read(buf, &image[..length], root, text, words, bytes);
+    if !made.is_made {
+        return state::done(state, made.at);
+    }
+    let count = made.words;
+    let used = made.bytes;
+    store(table, pool, &words[..count], &bytes[..used], state, made.at)
+}
+
+// What is left of `T WORDS BYTES HEX` after BYTES.
+fn read_hex(
     buf: &mut [u8],
     line: &mut [u8],
     image: &[u8],
@@ -61,18 +103,7 @@ fn read_text(
     let Spelled::Bytes(n) = hex::decode(line) else {
         return state::none(state);
     };
-    let length = state.image;
-    let root = state.root;
-    let made = text::read(buf, &image[..length], root, &line[..n], words, bytes);
-    if !made.is_made {
-        return state::done(state, made.at);
-    }
-    let count = made.words;
-    let used = made.bytes;
-    let mut next = state;
-    next.table = line::copy_words(&words[..count], table);
-    next.pool = line::copy(&bytes[..used], pool);
-    state::done(next, made.at)
+    read_text(buf, &line[..n], image, table, pool, words, bytes, state)
 }
 
 // `T WORDS BYTES HEX`. More words or bytes than there are to lend is no request.
@@ -107,7 +138,7 @@ pub fn read(
         return state::none(state);
     }
     let from = start + second.next;
-    read_text(
+    read_hex(
         buf,
         &mut line[from..],
         image,

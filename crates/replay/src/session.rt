@@ -37,8 +37,7 @@ fn answer_line(
     bytes: &mut [u8],
     session: Session,
 ) -> State
-    requires { ⌜ session .length ≤ length (now line) ⌝ }
-    requires { ⌜ Fits (session .state) (length (now image)) (length (now table)) (length (now pool)) ⌝ }
+    requires { ⌜ Held session (session .end) (length (now line)) (length (now image)) (length (now table)) (length (now pool)) ⌝ }
     ensures { λ r. ⌜ Fits r (length (now (image .entry))) (length (now (table .entry))) (length (now (pool .entry))) ⌝ }
 {
     let state = session.state;
@@ -66,13 +65,13 @@ fn answer_line(
 
 // Reads on, where no line ends in what was read before.
 fn refill(input: &mut [u8], session: Session) -> Session
-    ensures { λ r. ⌜ Held r (length (now (input .entry))) (session .length) ⌝ }
-    ensures { λ r. ⌜ Fits (r .state) (session .state .image) (session .state .table) (session .state .pool) ⌝ }
+    ensures { λ r. ⌜ Held r (length (now (input .entry))) (session .length) (session .state .image) (session .state .table) (session .state .pool) ⌝ }
 {
+    let state = session.state;
     let got = libc::read(STDIN_FILENO, input);
     let end = io::count(got, input);
     Session {
-        state: session.state,
+        state,
         start: 0,
         end,
         length: session.length,
@@ -82,20 +81,21 @@ fn refill(input: &mut [u8], session: Session) -> Session
     }
 }
 
-// The session with the line's bytes up to stop in the line's room, as many as it holds.
-fn take(input: &[u8], line: &mut [u8], session: Session, stop: usize) -> Session
-    requires { ⌜ (session .start ≤ stop) × (stop ≤ length (now input)) ⌝ }
-    requires { ⌜ session .length ≤ length (now line) ⌝ }
-    ensures { λ r. ⌜ r .length ≤ length (now (line .entry)) ⌝ }
-    ensures { λ r. ⌜ Fits (r .state) (session .state .image) (session .state .table) (session .state .pool) ⌝ }
+// Moves the bytes before the next newline from the input's room to the line's, as many as it holds.
+fn take(input: &[u8], line: &mut [u8], session: Session) -> Session
+    requires { ⌜ Held session (length (now input)) (length (now line)) (session .state .image) (session .state .table) (session .state .pool) ⌝ }
+    ensures { λ r. ⌜ Held r (length (now (input .entry))) (length (now (line .entry))) (session .state .image) (session .state .table) (session .state .pool) ⌝ }
 {
+    let state = session.state;
     let start = session.start;
+    let end = session.end;
     let length = session.length;
+    let stop = line::find(input, start, end, b'\n');
     let n = line::copy(&input[start..stop], &mut line[length..]);
     Session {
-        state: session.state,
+        state,
         start: stop,
-        end: session.end,
+        end,
         length: length + n,
         count: session.count,
         is_long: session.is_long || n < stop - start,
@@ -115,22 +115,20 @@ fn next(
     bytes: &mut [u8],
     session: Session,
 ) -> Session
-    requires { ⌜ Held session (length (now input)) (length (now line)) ⌝ }
-    requires { ⌜ Fits (session .state) (length (now image)) (length (now table)) (length (now pool)) ⌝ }
-    ensures { λ r. ⌜ Held r (length (now (input .entry))) (length (now (line .entry))) ⌝ }
-    ensures { λ r. ⌜ Fits (r .state) (length (now (image .entry))) (length (now (table .entry))) (length (now (pool .entry))) ⌝ }
+    requires { ⌜ Held session (length (now input)) (length (now line)) (length (now image)) (length (now table)) (length (now pool)) ⌝ }
+    ensures { λ r. ⌜ Held r (length (now (input .entry))) (length (now (line .entry))) (length (now (image .entry))) (length (now (table .entry))) (length (now (pool .entry))) ⌝ }
 {
-    let start = session.start;
-    let end = session.end;
-    let stop = line::find(input, start, end, b'\n');
-    let taken = take(input, line, session, stop);
-    if stop == end {
+    let taken = take(input, line, session);
+    let stop = taken.start;
+    let end = taken.end;
+    if end <= stop {
         return refill(input, taken);
     }
+    let after = stop + 1;
     let state = answer_line(buf, line, image, table, pool, words, bytes, taken);
     Session {
         state,
-        start: stop + 1,
+        start: after,
         end,
         length: 0,
         count: std::num::wrapping_add_usize(session.count, 1),
@@ -140,8 +138,7 @@ fn next(
 }
 
 fn begun() -> Session
-    ensures { λ r. ⌜ Held r 0 0 ⌝ }
-    ensures { λ r. ⌜ Fits (r .state) 0 0 0 ⌝ }
+    ensures { λ r. ⌜ Held r 0 0 0 0 0 ⌝ }
 {
     Session {
         state: State {

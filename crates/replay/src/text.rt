@@ -57,7 +57,7 @@ fn kept(nodes: &[u32], words: usize, pool: &[u8], bytes: usize) -> bool {
 }
 
 // What a read came to: how much of the buffer is to be written, and where a table was made, its words and its pool's bytes.
-pub struct Made {
+pub struct Outcome {
     pub is_made: bool,
     pub at: usize,
     pub words: usize,
@@ -65,7 +65,7 @@ pub struct Made {
 }
 
 // `T 0 0 NODES POOLBYTES WORDSHEX POOLHEX KEPT`. Where a count went over its room, what is there is told.
-fn made(buf: &mut [u8], nodes: &[u32], pool: &[u8], count: usize, used: usize) -> Made
+fn made(buf: &mut [u8], nodes: &[u32], pool: &[u8], count: usize, used: usize) -> Outcome
     ensures { λ r. ⌜ (r .words ≤ length (now (nodes .entry))) × (r .bytes ≤ length (now (pool .entry))) ⌝ }
 {
     let words = line::least(count, nodes.len() / 5) * 5;
@@ -76,7 +76,7 @@ fn made(buf: &mut [u8], nodes: &[u32], pool: &[u8], count: usize, used: usize) -
     let d = out::hex_words(buf, c, &nodes[..words]);
     let e = out::hex(buf, d, &pool[..bytes]);
     let at = out::kept(buf, e, kept(nodes, words, pool, bytes));
-    Made {
+    Outcome {
         is_made: true,
         at,
         words,
@@ -85,14 +85,14 @@ fn made(buf: &mut [u8], nodes: &[u32], pool: &[u8], count: usize, used: usize) -
 }
 
 // `T NO AT KEPT`
-fn refused(buf: &mut [u8], nodes: &[u32], pool: &[u8], no: usize, place: usize) -> Made
+fn refused(buf: &mut [u8], nodes: &[u32], pool: &[u8], no: usize, place: usize) -> Outcome
     ensures { λ r. ⌜ (r .words ≤ 0) × (r .bytes ≤ 0) ⌝ }
 {
     let a = out::byte(buf, 0, b'T');
     let b = out::number(buf, a, no);
     let c = out::number(buf, b, place);
     let at = out::kept(buf, c, kept(nodes, 0, pool, 0));
-    Made {
+    Outcome {
         is_made: false,
         at,
         words: 0,
@@ -108,7 +108,7 @@ pub fn read(
     text: &[u8],
     nodes: &mut [u32],
     pool: &mut [u8],
-) -> Made
+) -> Outcome
     ensures { λ r. ⌜ (r .words ≤ length (now (nodes .entry))) × (r .bytes ≤ length (now (pool .entry))) ⌝ }
 {
     fill_words(nodes);

@@ -6,14 +6,20 @@ use Rattle.replay.proofs.with_image.Tie as tie
 image-requires : tie.Need-image-requires
 image-requires c κs = search needs
 
-slice-aggregate-with-nodes : tie.Need-slice-aggregate-with-nodes
-slice-aggregate-with-nodes c = c .before .before .image .ensures
+slice-aggregate-with-table : tie.Need-slice-aggregate-with-table
+slice-aggregate-with-table c = c .before .before .before .before .image .ensures
 
-with-nodes-requires : tie.Need-with-nodes-requires
-with-nodes-requires c κs = search needs
+with-table-requires : tie.Need-with-table-requires
+with-table-requires c κs = search needs
 
 same-length : tie.Need-same-length
 same-length c = search needs
+
+same-length-2 : tie.Need-same-length-2
+same-length-2 c = search needs
+
+same-length-3 : tie.Need-same-length-3
+same-length-3 c = search needs
 
 returns : tie.Need-returns
 returns c = search needs
@@ -21,4 +27,11 @@ returns c = search needs
 pub with-image-spec : {M : Type 1} → statement M
 with-image-spec =
     tie.close
-    (tie.spec image-requires slice-aggregate-with-nodes with-nodes-requires same-length returns)
+    (tie.spec
+    image-requires
+    slice-aggregate-with-table
+    with-table-requires
+    same-length
+    same-length-2
+    same-length-3
+    returns)

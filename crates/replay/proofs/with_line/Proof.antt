@@ -6,23 +6,17 @@ use Rattle.replay.proofs.with_line.Tie as tie
 line-requires : tie.Need-line-requires
 line-requires c κs = search needs
 
-slice-aggregate-answer-all : tie.Need-slice-aggregate-answer-all
-slice-aggregate-answer-all c = c .before .before .before .before .before .line .ensures
+slice-aggregate-with-image : tie.Need-slice-aggregate-with-image
+slice-aggregate-with-image c = c .before .before .before .line .ensures
 
-answer-all-requires : tie.Need-answer-all-requires
-answer-all-requires c κs = search needs
+with-image-requires : tie.Need-with-image-requires
+with-image-requires c κs = search needs
 
 same-length : tie.Need-same-length
 same-length c = search needs
 
 same-length-2 : tie.Need-same-length-2
 same-length-2 c = search needs
-
-same-length-3 : tie.Need-same-length-3
-same-length-3 c = search needs
-
-same-length-4 : tie.Need-same-length-4
-same-length-4 c = search needs
 
 returns : tie.Need-returns
 returns c = search needs
@@ -32,10 +26,8 @@ with-line-spec =
     tie.close
     (tie.spec
     line-requires
-    slice-aggregate-answer-all
-    answer-all-requires
+    slice-aggregate-with-image
+    with-image-requires
     same-length
     same-length-2
-    same-length-3
-    same-length-4
     returns)

@@ -6,11 +6,11 @@ use Rattle.replay.proofs.with_pool.Tie as tie
 pool-requires : tie.Need-pool-requires
 pool-requires c κs = search needs
 
-slice-aggregate-with-line : tie.Need-slice-aggregate-with-line
-slice-aggregate-with-line c = c .before .before .before .before .pool .ensures
+slice-aggregate-with-words : tie.Need-slice-aggregate-with-words
+slice-aggregate-with-words c = c .before .before .before .before .before .before .pool .ensures
 
-with-line-requires : tie.Need-with-line-requires
-with-line-requires c κs = search needs
+with-words-requires : tie.Need-with-words-requires
+with-words-requires c κs = search needs
 
 same-length : tie.Need-same-length
 same-length c = search needs
@@ -21,6 +21,12 @@ same-length-2 c = search needs
 same-length-3 : tie.Need-same-length-3
 same-length-3 c = search needs
 
+same-length-4 : tie.Need-same-length-4
+same-length-4 c = search needs
+
+same-length-5 : tie.Need-same-length-5
+same-length-5 c = search needs
+
 returns : tie.Need-returns
 returns c = search needs
 
@@ -29,9 +35,11 @@ with-pool-spec =
     tie.close
     (tie.spec
     pool-requires
-    slice-aggregate-with-line
-    with-line-requires
+    slice-aggregate-with-words
+    with-words-requires
     same-length
     same-length-2
     same-length-3
+    same-length-4
+    same-length-5
     returns)

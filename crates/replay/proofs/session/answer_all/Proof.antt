@@ -7,10 +7,10 @@ use Rattle.replay.proofs.session.answer_all.Statement.{statement}
 use Rattle.replay.proofs.session.answer_all.Tie as tie
 
 abbrev Inv-loop : tie.InvT-loop
-Inv-loop buf₀ image₀ nodes₀ pool₀ room₀ session₀ turns₀ buf image nodes pool room session turns = Held session (length room₀) (length image₀) × ((length room ≡ length room₀) × ((length image ≡ length image₀) × ((length buf ≡ length buf₀) × ((length nodes ≡ length nodes₀) × (length pool ≡ length pool₀)))))
+Inv-loop buf₀ input₀ line₀ image₀ table₀ pool₀ words₀ bytes₀ session₀ turns₀ buf input line image table pool words bytes session turns = Held session (length input₀) (length line₀) (length image₀) (length table₀) (length pool₀) × ((((length buf ≡ length buf₀) × (length input ≡ length input₀)) × ((length line ≡ length line₀) × (length image ≡ length image₀))) × (((length table ≡ length table₀) × (length pool ≡ length pool₀)) × ((length words ≡ length words₀) × (length bytes ≡ length bytes₀))))
 
 abbrev μ-loop : tie.MeasureT-loop
-μ-loop buf₀ image₀ nodes₀ pool₀ room₀ session₀ turns₀ buf image nodes pool room session turns = turns
+μ-loop buf₀ input₀ line₀ image₀ table₀ pool₀ words₀ bytes₀ session₀ turns₀ buf input line image table pool words bytes session turns = turns
 
 begun-requires : tie.Need-begun-requires Inv-loop μ-loop
 begun-requires c κs = search needs
@@ -28,16 +28,7 @@ loop-less : tie.Need-loop-less Inv-loop μ-loop
 loop-less c = search needs
 
 loop-again : tie.Need-loop-again Inv-loop μ-loop
-loop-again c = search needs
-
-sub-answer-line : tie.Need-sub-answer-line Inv-loop μ-loop
-sub-answer-line c = search needs
-
-part-answer-line-start : tie.Need-part-answer-line-start Inv-loop μ-loop
-part-answer-line-start c = search needs
-
-part-answer-line-end : tie.Need-part-answer-line-end Inv-loop μ-loop
-part-answer-line-end c = search needs
+loop-again c = (search needs, (((search needs, search needs), (search needs, search needs)), ((search needs, search needs), (search needs, search needs))))
 
 answer-line-requires : tie.Need-answer-line-requires Inv-loop μ-loop
 answer-line-requires c κs = search needs
@@ -57,9 +48,6 @@ same-length-4 c = search needs
 same-length-5 : tie.Need-same-length-5 Inv-loop μ-loop
 same-length-5 c = search needs
 
-returns : tie.Need-returns Inv-loop μ-loop
-returns c = search needs
-
 same-length-6 : tie.Need-same-length-6 Inv-loop μ-loop
 same-length-6 c = search needs
 
@@ -69,14 +57,8 @@ same-length-7 c = search needs
 same-length-8 : tie.Need-same-length-8 Inv-loop μ-loop
 same-length-8 c = search needs
 
-same-length-9 : tie.Need-same-length-9 Inv-loop μ-loop
-same-length-9 c = search needs
-
-same-length-10 : tie.Need-same-length-10 Inv-loop μ-loop
-same-length-10 c = search needs
-
-returns-2 : tie.Need-returns-2 Inv-loop μ-loop
-returns-2 c = search needs
+returns : tie.Need-returns Inv-loop μ-loop
+returns c = search needs
 
 pub answer-all-spec : {M : Type 1} → statement M
 answer-all-spec =
@@ -90,19 +72,13 @@ answer-all-spec =
     sub-turns
     loop-less
     loop-again
-    sub-answer-line
-    part-answer-line-start
-    part-answer-line-end
     answer-line-requires
     same-length
     same-length-2
     same-length-3
     same-length-4
     same-length-5
-    returns
     same-length-6
     same-length-7
     same-length-8
-    same-length-9
-    same-length-10
-    returns-2)
+    returns)

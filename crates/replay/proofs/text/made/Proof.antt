@@ -1,4 +1,4 @@
--- `replay::text::made` is safe and ends. Assumes nothing.
+-- `replay::text::made` tells no more words and bytes than there are. Assumes nothing.
 use borrow.Author.Needs.{needs}
 use mathlib.Core.Path.{sym}
 use lib.Seq.{length-take-le}
