@@ -10,7 +10,17 @@ ghost use Prim.Native.Nat.{_≤_, _<_};
 ghost use lib.ListN.{length};
 ghost use Rattle.replay.specs.Fits.{Fits};
 
-fn is_asking(letter: u8) -> bool {
+// Whether the line that ends at `end` is to be taken as C, Y, A or a letter alone, as Q is.
+fn is_asking(line: &[u8], end: usize) -> bool
+    requires { ⌜ (0 < end) × (end ≤ length (now line)) ⌝ }
+{
+    if end < 2 {
+        return true;
+    }
+    if line[1] != b' ' {
+        return false;
+    }
+    let letter = line[0];
     match letter {
         b'C' => true,
         b'Y' => true,
@@ -53,6 +63,44 @@ fn asked(
     state::done(state, at)
 }
 
+// A request that may change the state.
+fn changed(
+    buf: &mut [u8],
+    line: &mut [u8],
+    end: usize,
+    image: &mut [u8],
+    table: &mut [u32],
+    pool: &mut [u8],
+    words: &mut [u32],
+    bytes: &mut [u8],
+    state: State,
+) -> Answer
+    requires { ⌜ (0 < end) × (end ≤ length (now line)) ⌝ }
+    requires { ⌜ Fits state (length (now image)) (length (now table)) (length (now pool)) ⌝ }
+    ensures { λ r. ⌜ Fits (r .state) (length (now (image .entry))) (length (now (table .entry))) (length (now (pool .entry))) ⌝ }
+{
+    if end < 2 {
+        return state::none(state);
+    }
+    if line[1] != b' ' {
+        return state::none(state);
+    }
+    let letter = line[0];
+    if letter == b'T' {
+        return reading::read(
+            buf,
+            &mut line[2..end],
+            image,
+            table,
+            pool,
+            words,
+            bytes,
+            state,
+        );
+    }
+    setting::set(letter, &mut line[2..end], image, table, pool, state)
+}
+
 // The line that ends at `end` and is neither blank nor begins with `#`. Its room is longer, and lent to the prints.
 pub fn request(
     buf: &mut [u8],
@@ -69,27 +117,9 @@ pub fn request(
     requires { ⌜ Fits state (length (now image)) (length (now table)) (length (now pool)) ⌝ }
     ensures { λ r. ⌜ Fits (r .state) (length (now (image .entry))) (length (now (table .entry))) (length (now (pool .entry))) ⌝ }
 {
-    let letter = line[0];
-    if end < 2 {
+    if is_asking(line, end) {
+        let letter = line[0];
         return asked(letter, buf, line, end, image, table, pool, state);
     }
-    if line[1] != b' ' {
-        return state::none(state);
-    }
-    if is_asking(letter) {
-        return asked(letter, buf, line, end, image, table, pool, state);
-    }
-    if letter == b'T' {
-        return reading::read(
-            buf,
-            &mut line[2..end],
-            image,
-            table,
-            pool,
-            words,
-            bytes,
-            state,
-        );
-    }
-    setting::set(letter, &mut line[2..end], image, table, pool, state)
+    changed(buf, line, end, image, table, pool, words, bytes, state)
 }
