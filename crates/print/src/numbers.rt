@@ -5,7 +5,7 @@ ghost use lib.ListN.{length};
 ghost use Rattle.definitions.specs.Print.{decimal, signedDecimal};
 ghost use Rattle.print.specs.Written.{Written, Room};
 
-// How many digits a number has; four of them at a time.
+// How many digits a number has: four are taken off at a time.
 fn decimal_length(n: u64) -> usize
     ensures { λ r. ⌜ r ≡ length (decimal n) ⌝ }
 {
@@ -27,7 +27,7 @@ fn decimal_length(n: u64) -> usize
     more + 4
 }
 
-// The last digit is found first.
+// The last digit is found first, and each goes to its place. Where the buffer has none of their places, they are only counted.
 pub fn print_decimal(n: u64, buffer: &mut [u8], at: usize) -> usize
     requires { ⌜ Room at (decimal n) ⌝ }
     ensures { λ r. ⌜ Written (now (buffer .entry)) at (decimal n) (now (buffer .exit)) r ⌝ }

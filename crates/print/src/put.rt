@@ -27,7 +27,7 @@ fn put_whole(text: &[u8], buffer: &mut [u8], at: usize) -> usize
     at + i
 }
 
-// A text of which the buffer may end in the middle.
+// A text in whose middle the buffer may end.
 fn put_clipped(text: &[u8], buffer: &mut [u8], at: usize) -> usize
     requires { ⌜ Room at (now text) ⌝ }
     ensures { λ r. ⌜ Written (now (buffer .entry)) at (now (text .entry)) (now (buffer .exit)) r ⌝ }
@@ -41,6 +41,7 @@ fn put_clipped(text: &[u8], buffer: &mut [u8], at: usize) -> usize
     after
 }
 
+// Where the buffer has no place for any of it, the text is only counted.
 pub fn put_slice(text: &[u8], buffer: &mut [u8], at: usize) -> usize
     requires { ⌜ Room at (now text) ⌝ }
     ensures { λ r. ⌜ Written (now (buffer .entry)) at (now (text .entry)) (now (buffer .exit)) r ⌝ }
