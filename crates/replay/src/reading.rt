@@ -12,9 +12,8 @@ ghost use Prim.Native.Nat.{_≤_};
 ghost use lib.ListN.{length};
 ghost use Rattle.replay.specs.Fits.{Fits};
 
-// A number that a space ends, where the line begins with one, and where the next word begins.
+// A number that a space ends, and where the next word begins. Where there is none, n is over every room's length.
 struct Ended {
-    is_number: bool,
     n: usize,
     next: usize,
 }
@@ -25,23 +24,17 @@ fn leading(line: &[u8]) -> Ended
     let end = line::find(line, 0, line.len(), b' ');
     if end == line.len() {
         return Ended {
-            is_number: false,
-            n: 0,
+            n: usize::MAX,
             next: 0,
         };
     }
     let Number::Is(n) = number::decimal(&line[..end]) else {
         return Ended {
-            is_number: false,
-            n: 0,
+            n: usize::MAX,
             next: 0,
         };
     };
-    Ended {
-        is_number: true,
-        n,
-        next: end + 1,
-    }
+    Ended { n, next: end + 1 }
 }
 
 // Makes these words and bytes the state's table and pool.
@@ -123,12 +116,6 @@ pub fn read(
     let first = leading(line);
     let start = first.next;
     let second = leading(&line[start..]);
-    if !first.is_number {
-        return state::none(state);
-    }
-    if !second.is_number {
-        return state::none(state);
-    }
     let count = first.n;
     let room = second.n;
     if count > words.len() {

@@ -38,24 +38,6 @@ same-length-2 c = search needs
 returns-2 : tie.Need-returns-2
 returns-2 c = search needs
 
-none-requires-3 : tie.Need-none-requires-3
-none-requires-3 c κs = search needs
-
-same-length-3 : tie.Need-same-length-3
-same-length-3 c = search needs
-
-returns-3 : tie.Need-returns-3
-returns-3 c = search needs
-
-none-requires-4 : tie.Need-none-requires-4
-none-requires-4 c κs = search needs
-
-same-length-4 : tie.Need-same-length-4
-same-length-4 c = search needs
-
-returns-4 : tie.Need-returns-4
-returns-4 c = search needs
-
 add-from : tie.Need-add-from
 add-from c = search needs
 
@@ -83,6 +65,12 @@ slice-aggregate-read-hex-2 c = sym (length-take-le _ _ (search needs))
 read-hex-requires : tie.Need-read-hex-requires
 read-hex-requires c κs = search needs
 
+same-length-3 : tie.Need-same-length-3
+same-length-3 c = search needs
+
+same-length-4 : tie.Need-same-length-4
+same-length-4 c = search needs
+
 same-length-5 : tie.Need-same-length-5
 same-length-5 c = search needs
 
@@ -95,14 +83,8 @@ same-length-7 c = search needs
 same-length-8 : tie.Need-same-length-8
 same-length-8 c = search needs
 
-same-length-9 : tie.Need-same-length-9
-same-length-9 c = search needs
-
-same-length-10 : tie.Need-same-length-10
-same-length-10 c = search needs
-
-returns-5 : tie.Need-returns-5
-returns-5 c = search needs
+returns-3 : tie.Need-returns-3
+returns-3 c = search needs
 
 pub read-spec : {M : Type 1} → statement M
 read-spec =
@@ -119,12 +101,6 @@ read-spec =
     none-requires-2
     same-length-2
     returns-2
-    none-requires-3
-    same-length-3
-    returns-3
-    none-requires-4
-    same-length-4
-    returns-4
     add-from
     sub-read-hex
     part-read-hex-start
@@ -134,10 +110,10 @@ read-spec =
     slice-relend-prefix-read-hex-2
     slice-aggregate-read-hex-2
     read-hex-requires
+    same-length-3
+    same-length-4
     same-length-5
     same-length-6
     same-length-7
     same-length-8
-    same-length-9
-    same-length-10
-    returns-5)
+    returns-3)
