@@ -3,6 +3,7 @@
 // which message 0 is the root, and then the text.
 mod phases;
 mod rooms;
+
 use libc::STDIN_FILENO;
 
 // Each room is made and lent by a function of its own, since a proof that holds several large arrays costs too much.
