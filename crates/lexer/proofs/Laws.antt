@@ -9,15 +9,16 @@ use native.Mathlib.Numerals.{add-one}
 use native.Mathlib.Nat.{not-suc-le-zero}
 use mathlib.Core.Option.{Option, none, some}
 use lib.Dec.{ltb, eqb}
-use lib.ListN.{length, getD, drop, drop-of-length-le}
+use lib.ListN.{length, getD, take, drop, drop-of-length-le}
 use lib.Seq.{drop-cons, drop-drop}
 use borrow.Author.Tests.{eq-eqb, ne-eqb, eqb-false, lt-ltb}
-use Rattle.definitions.specs.Basics.{if_then_else_}
+use Rattle.definitions.specs.Basics.{if_then_else_, each}
 use Rattle.definitions.specs.Refusals.{place}
 use Rattle.definitions.specs.Image.{digit}
 use Rattle.definitions.specs.Classes.{classes, class, goesOn, quoteClass, newlineClass, spaceClass, commentClass, symbolClass, digitClass, letterClass}
 use Rattle.definitions.specs.Integers.{front, octalDigit, hexDigit, hexAhead, integerLength, runsOn}
 use Rattle.definitions.specs.Tokens.{bad, endOfText, gap, inside, integerScan, integerToken, nameToken, oneMore, scan, scanFrom, skip, stringScan, stringToken, tokenOf}
+use Rattle.laws.proofs.Lists.{and-made}
 use Rattle.lexer.specs.declared.tokens.Closing.{Closing}
 use Rattle.lexer.specs.declared.tokens.Closing.the-variants as closing
 use Rattle.lexer.specs.Steps.{line, breaks, closingOf}
@@ -36,6 +37,16 @@ front-stop p s i h e = rw (drop-cons s i 0) (simp e (omega arith))
 pub front-end : (p : ℕ → Bool) (s : List ℕ) (i : ℕ) → length s ≤ i → i ≡ i + front p (drop i s)
 unfolding front
 front-end p s i h = rw (drop-of-length-le s h) (omega arith)
+
+-- the bytes of the front pass
+pub front-passes : (p : ℕ → Bool) (s : List ℕ) → each p (take (front p s) s) ≡ true
+unfolding front each
+front-passes p [] = refl
+front-passes p (b ∷ bs) = go (p b) refl (front-passes p bs)
+  where
+    go : (t : Bool) → p b ≡ t → each p (take (front p bs) bs) ≡ true → each p (take (front p (b ∷ bs)) (b ∷ bs)) ≡ true
+    go true e h = rw (e, front) (and-made (p b) (each p (take (front p bs) bs)) e h)
+    go false e h = rw (e, front) refl
 
 -- ---- a comment's rest, from a place on
 

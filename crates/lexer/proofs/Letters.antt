@@ -1,14 +1,18 @@
 -- A letter's first byte, range by range, and the state after some bytes and one more.
-use mathlib.Core.Path.{_≡_, refl}
+use mathlib.Core.Path.{_≡_, refl, sym, ap, _∙_}
 use Prim.Native.Nat.{ℕ, _≤_, _<_, _-_, _+_}
 use mathlib.Core.List.{List}
 use native.Mathlib.Omega.{arith}
 use native.Mathlib.Numerals.{add-one}
-use lib.ListN.{length, getD, drop, drop-of-length-le}
+use lib.ListN.{length, getD, take, drop, drop-of-length-le, take-append-drop}
 use lib.Seq.{drop-cons}
 use borrow.Author.Tests.{le-leb, lt-leb, eq-eqb, ne-eqb}
 use Rattle.definitions.specs.declared.Utf8.{Utf8}
+use Rattle.definitions.specs.Integers.{front}
 use Rattle.definitions.specs.Utf8.{await, whole, broken, lead, step, steps}
+use Rattle.laws.proofs.Utf8Laws.{steps-append, ascii-steps}
+use Rattle.lexer.specs.Values.{ascii}
+use Rattle.lexer.proofs.Laws.{front-passes}
 
 -- ---- the first byte
 
@@ -90,3 +94,11 @@ module _ (s : List ℕ) (i : ℕ) (u : Utf8) where
   pub steps-end : length s ≤ i → steps u (drop i s) ≡ u
   unfolding steps
   steps-end h = rw (drop-of-length-le s h) refl
+
+-- letters of one byte at the front change nothing for what follows them
+pub steps-front : (s : List ℕ) → steps whole (drop (front ascii s) s) ≡ steps whole s
+steps-front s =
+    let n : ℕ = front ascii s in
+    ap (λ (u : Utf8). steps u (drop n s)) (sym (ascii-steps (take n s) (front-passes ascii s)))
+    ∙ sym (steps-append whole (take n s) (drop n s))
+    ∙ ap (steps whole) (take-append-drop n s)

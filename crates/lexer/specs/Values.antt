@@ -33,6 +33,10 @@ integerOf negative most v = if leb v most then (λ _. Worth (signed negative v))
 unfoldable pub digitIn : Bool → ℕ → Bool
 digitIn hex b = if hex then (λ _. hexDigit b) else λ _. octalDigit b
 
+-- a letter of one byte
+abbrev pub ascii : ℕ → Bool
+ascii b = leb b 127
+
 -- a piece as the code answers it
 abbrev pub told : Piece → answered.Piece
 told (piece b n) = Byte b n

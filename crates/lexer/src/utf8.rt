@@ -1,7 +1,9 @@
 // UTF-8, byte by byte (T; table 3-7 of the Unicode Standard: no surrogates, no overlong forms, at most U+10FFFF).
 use definitions::Utf8;
 ghost use mathlib.Core.Path.{_≡_};
+ghost use Rattle.definitions.specs.Integers.{front};
 ghost use Rattle.definitions.specs.Utf8.{await, lead, step, utf8};
+ghost use Rattle.lexer.specs.Values.{ascii};
 
 // Between two letters: the state that bytes begin in, and end in if they are UTF-8.
 pub const WHOLE: Utf8 = Utf8 {
@@ -77,12 +79,26 @@ pub fn step(u: Utf8, b: u8) -> Utf8
     awaits(u.left - 1, 128, 191)
 }
 
-// The bytes are whole letters.
+// How many bytes at the front are letters of one byte.
+fn ascii_end(s: &[u8]) -> usize
+    ensures { λ r. ⌜ r ≡ front ascii (now (s .entry)) ⌝ }
+{
+    let mut i: usize = 0;
+    while i < s.len() {
+        if 127 < s[i] {
+            return i;
+        }
+        i += 1;
+    }
+    i
+}
+
+// The bytes are whole letters. Those of one byte at the front are passed first: after them the state is what it was before them.
 pub fn is_utf8(s: &[u8]) -> bool
     ensures { λ r. ⌜ r ≡ utf8 (now (s .entry)) ⌝ }
 {
     let mut u = WHOLE;
-    let mut i = 0;
+    let mut i = ascii_end(s);
     while i < s.len() {
         let b = s[i];
         u = step(u, b);

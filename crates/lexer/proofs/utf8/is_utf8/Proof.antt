@@ -1,12 +1,12 @@
 -- `lexer::utf8::is_utf8` meets its contract. The invariant: the state now, taken along what is left, is the state at the end.
-use mathlib.Core.Path.{_≡_, sym, _∙_, refl, ap}
+use mathlib.Core.Path.{_≡_, sym, _∙_, ap}
 use Prim.Native.Nat.{_-_}
 use native.Mathlib.Omega.{arith}
 use lib.Dec.{eqb}
 use lib.ListN.{length, drop}
 use Rattle.definitions.specs.declared.Utf8.{Utf8}
 use Rattle.definitions.specs.Utf8.{whole, steps, utf8}
-use Rattle.lexer.proofs.Letters.{steps-more, steps-end}
+use Rattle.lexer.proofs.Letters.{steps-more, steps-end, steps-front}
 use Rattle.lexer.proofs.utf8.is_utf8.Statement.{statement}
 use Rattle.lexer.proofs.utf8.is_utf8.Tie as tie
 
@@ -16,8 +16,11 @@ Inv-loop s u₀ i₀ u i = steps u (drop i s) ≡ steps whole s
 abbrev μ-loop : tie.MeasureT-loop
 μ-loop s u₀ i₀ u i = length s - i
 
+ascii-end-requires : tie.Need-ascii-end-requires Inv-loop μ-loop
+ascii-end-requires c κs = tt
+
 loop-holds : tie.Need-loop-holds Inv-loop μ-loop
-loop-holds c = refl
+loop-holds c = rw (c .ascii-end .ensures) (steps-front _)
 
 shared-slice-read-b : tie.Need-shared-slice-read-b Inv-loop μ-loop
 shared-slice-read-b c = omega arith
@@ -44,6 +47,7 @@ is-utf8-spec =
     (tie.spec
     Inv-loop
     μ-loop
+    ascii-end-requires
     loop-holds
     shared-slice-read-b
     step-requires
