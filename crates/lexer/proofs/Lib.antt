@@ -5,4 +5,5 @@ pub mod Letters
 pub mod Digits
 pub mod Decoding
 pub mod Escapes
+pub mod Stores
 pub mod Pieces

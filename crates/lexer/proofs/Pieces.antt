@@ -1,22 +1,30 @@
 -- The turns of decoding: the bytes that are decoded and stored so far, and the rest that is left to decode.
 use mathlib.Core.Path.{_≡_, sym, _∙_, refl, ap}
+use mathlib.Core.Bool.{true, not}
 use mathlib.Core.List.{List, [], _∷_, _++_, append-nil}
 use mathlib.Core.Option.{Option, none, some}
-use Prim.Native.Nat.{ℕ, suc, _≤_, _<_, _+_}
+use Prim.Native.Nat.{ℕ, _≤_, _<_, _+_}
 use native.Mathlib.Omega.{arith}
 use native.Mathlib.Numerals.{add-one}
-use native.Mathlib.Nat.{add-zero}
 use lib.Dec.{eqb}
-use lib.ListN.{length, getD, set, drop, drop-of-length-le, length-append, length-drop}
-use lib.Seq.{drop-cons, drop-drop, sets, length-sets, append-snoc}
+use lib.ListN.{length, getD, set, take, drop, drop-of-length-le, length-append, length-drop, take-append-drop}
+use lib.Seq.{drop-cons, drop-drop, sets, length-sets, length-take-le, append-snoc}
+use borrow.Author.Tests.{eqb-false, not-true}
+use Rattle.definitions.specs.Basics.{each}
+use Rattle.definitions.specs.Integers.{front}
 use Rattle.definitions.specs.declared.Utf8.{Utf8}
 use Rattle.definitions.specs.Utf8.{whole, step, steps, utf8}
 use Rattle.definitions.specs.Strings.{Piece, piece, badPiece, firstPiece, before, decode}
 use Rattle.lexer.specs.declared.strings.Piece.the-variants.{Byte, Bad}
 use Rattle.lexer.specs.declared.strings.Decoded.the-variants as decoded
-use Rattle.lexer.specs.Values.{told, decodedOf, decodedFront}
+use Rattle.lexer.specs.Values.{ascii, plain, told, decodedOf, decodedFront}
+use Rattle.laws.proofs.Lists.{and-parts, each-map, front-le}
+use Rattle.laws.proofs.Utf8Laws.{ascii-steps}
 use Rattle.laws.proofs.Decoding.{decode-is, decode-nil}
+use Rattle.lexer.proofs.Laws.{front-passes}
 use Rattle.lexer.proofs.Decoding.{reaches-first, decodedFront-nil, decodedFront-cons}
+use Rattle.lexer.proofs.Escapes.{first-plain}
+use Rattle.lexer.proofs.Stores.{sets-snoc}
 
 -- ---- what a piece was, of what was told of it
 
@@ -35,12 +43,6 @@ unfolding steps
 steps-snoc [] u b = refl
 steps-snoc (x ∷ xs) u b = steps-snoc xs (step u x) b
 
-sets-snoc : (xs l : List ℕ) (i b : ℕ) → sets l i (xs ++ (b ∷ [])) ≡ set (sets l i xs) (i + length xs) b
-sets-snoc [] l i b = rw add-zero refl
-sets-snoc (x ∷ xs) l i b =
-    let q : suc i + length xs ≡ i + suc (length xs) = omega arith in
-    sets-snoc xs (set l i x) (suc i) b ∙ rw q refl
-
 -- bytes before what is decoded
 abbrev joined : List ℕ → Option (List ℕ) → Option (List ℕ)
 joined xs none = none
@@ -53,6 +55,43 @@ joined-nil (some ys) = refl
 joined-before : (xs : List ℕ) (b : ℕ) (o : Option (List ℕ)) → joined (xs ++ (b ∷ [])) o ≡ joined xs (before b o)
 joined-before xs b none = refl
 joined-before xs b (some ys) = ap some (append-snoc xs b ys)
+
+joined-cons : (b : ℕ) (xs : List ℕ) (o : Option (List ℕ)) → joined (b ∷ xs) o ≡ before b (joined xs o)
+joined-cons b xs none = refl
+joined-cons b xs (some ys) = refl
+
+-- ---- plain bytes before what is decoded
+
+plain-first : (b : ℕ) (bs : List ℕ) → plain b ≡ true → firstPiece b bs ≡ piece b 1
+plain-first b bs e = first-plain b bs (eqb-false b 92 (not-true (eqb b 92) (and-parts (ascii b) (not (eqb b 92)) e .1)))
+
+decode-plain : (xs s : List ℕ) → each plain xs ≡ true → joined xs (decode s) ≡ decode (xs ++ s)
+unfolding each
+decode-plain [] s e = joined-nil (decode s)
+decode-plain (b ∷ xs) s e =
+    let h = and-parts (plain b) (each plain xs) e in
+    joined-cons b xs (decode s)
+    ∙ ap (before b) (decode-plain xs s (h .1))
+    ∙ sym (decode-is b (xs ++ s) ∙ rw (plain-first b (xs ++ s) (h .0)) refl)
+
+front-plain : (xs s : List ℕ) → each plain xs ≡ true → xs ++ decodedFront s ≡ decodedFront (xs ++ s)
+unfolding each
+front-plain [] s e = refl
+front-plain (b ∷ xs) s e =
+    let h = and-parts (plain b) (each plain xs) e in
+    ap (λ (l : List ℕ). b ∷ l) (front-plain xs s (h .1))
+    ∙ sym (decodedFront-cons b (xs ++ s) ∙ rw (plain-first b (xs ++ s) (h .0)) refl)
+
+plain-whole : (xs : List ℕ) → each plain xs ≡ true → steps whole xs ≡ whole
+plain-whole xs e = ascii-steps xs (each-map plain ascii (λ b h. and-parts (ascii b) (not (eqb b 92)) h .0) xs e)
+
+-- as many bytes as are plain at the front
+module _ (raw : List ℕ) (n : ℕ) (e : n ≡ front plain raw) where
+  pub plain-within : n ≤ length raw
+  plain-within = rw e (front-le plain raw)
+
+  pub plain-count : n ≡ length (take n raw)
+  plain-count = sym (length-take-le n raw plain-within)
 
 -- ---- the piece at a place
 
@@ -98,9 +137,20 @@ module _ (raw start : List ℕ) (at : ℕ) where
   abbrev Answers : decoded.the-data → List ℕ → Type 0
   Answers r pool = (r ≡ decodedOf (decode raw)) × (pool ≡ sets start at (decodedFront raw))
 
-  pub turn-start : Turn start whole 0 0
-  unfolding steps
-  turn-start = record { done = []; all = joined-nil _; front = refl; count = refl; state = refl; stored = refl; few = omega arith; inside = omega arith }
+  -- the plain bytes at the front are their own decoding
+  pub turn-start : (pool : List ℕ) (n : ℕ) → n ≡ front plain raw → pool ≡ sets start at (take n raw) → Turn pool whole n n
+  turn-start pool n e w =
+      let p : each plain (take n raw) ≡ true = rw e (front-passes plain raw) in
+      record {
+        done = take n raw;
+        all = decode-plain (take n raw) (drop n raw) p ∙ ap decode (take-append-drop n raw);
+        front = front-plain (take n raw) (drop n raw) p ∙ ap decodedFront (take-append-drop n raw);
+        count = plain-count raw n e;
+        state = sym (plain-whole (take n raw) p);
+        stored = w;
+        few = omega arith;
+        inside = plain-within raw n e;
+      }
 
   module _ (pool : List ℕ) (u : Utf8) (n i : ℕ) (t : Turn pool u n i) where
     pub turn-length : length pool ≡ length start

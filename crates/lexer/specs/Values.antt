@@ -1,9 +1,9 @@
 -- What an answer says of a value: an integer's within the greatest magnitude of its type, a piece of a string, a whole string.
 use Prim.Native.Nat.{ℕ, zero, suc, _-_}
-use mathlib.Core.Bool.{Bool}
+use mathlib.Core.Bool.{Bool, _&&_, not}
 use mathlib.Core.List.{List, [], _∷_}
 use mathlib.Core.Option.{Option, none, some}
-use lib.Dec.{leb}
+use lib.Dec.{eqb, leb}
 use lib.ListN.{length, drop}
 use Rattle.definitions.specs.Basics.{if_then_else_}
 use Rattle.definitions.specs.Nodes.{word64}
@@ -36,6 +36,10 @@ digitIn hex b = if hex then (λ _. hexDigit b) else λ _. octalDigit b
 -- a letter of one byte
 abbrev pub ascii : ℕ → Bool
 ascii b = leb b 127
+
+-- a letter of one byte that stands for itself: no backslash
+abbrev pub plain : ℕ → Bool
+plain b = ascii b && not (eqb b 92)
 
 -- a piece as the code answers it
 abbrev pub told : Piece → answered.Piece

@@ -5,12 +5,12 @@ use crate::integers::worth;
 use crate::utf8::WHOLE;
 use crate::utf8::step;
 ghost use mathlib.Core.Path.{_≡_};
-ghost use Prim.Native.Nat.{_+_, _<_, _^_};
+ghost use Prim.Native.Nat.{_+_, _≤_, _<_, _^_};
 ghost use lib.ListN.{length, drop, getD, set};
 ghost use lib.Seq.{sets};
-ghost use Rattle.definitions.specs.Integers.{octalDigit, worth};
+ghost use Rattle.definitions.specs.Integers.{front, octalDigit, worth};
 ghost use Rattle.definitions.specs.Strings.{escapes, findEscape, letterPiece, pieceOf, upTo, escapePiece, firstPiece, decode};
-ghost use Rattle.lexer.specs.Values.{digitIn, told, decodedOf, decodedFront};
+ghost use Rattle.lexer.specs.Values.{digitIn, plain, told, decodedOf, decodedFront};
 
 // The escape letters and their bytes, a letter before its byte: \a \b \f \n \r \t \v \? \\ \' \"
 const ESCAPES: [u8; 22] = [
@@ -176,16 +176,77 @@ fn put(pool: &mut [u8], place: usize, b: u8)
     }
 }
 
+// Bytes that the pool has room for: with no test of the room inside the loop, they are copied in blocks.
+fn put_whole(part: &[u8], pool: &mut [u8], at: usize)
+    requires { ⌜ at + length (now part) ≤ length (now pool) ⌝ }
+    ensures { λ _. ⌜ now (pool .exit) ≡ sets (now (pool .entry)) at (now (part .entry)) ⌝ }
+{
+    let mut i = 0;
+    while i < part.len() {
+        pool[at + i] = part[i];
+        i += 1;
+    }
+}
+
+// Bytes in whose middle the pool may end.
+fn put_clipped(part: &[u8], pool: &mut [u8], at: usize)
+    requires { ⌜ at + length (now part) < 2 ^ 64 ⌝ }
+    ensures { λ _. ⌜ now (pool .exit) ≡ sets (now (pool .entry)) at (now (part .entry)) ⌝ }
+{
+    let mut i = 0;
+    while i < part.len() {
+        let b = part[i];
+        put(pool, at + i, b);
+        i += 1;
+    }
+}
+
+// Bytes stored from a place of the pool on, as far as the pool has places.
+fn put_run(part: &[u8], pool: &mut [u8], at: usize)
+    requires { ⌜ at + length (now part) < 2 ^ 64 ⌝ }
+    ensures { λ _. ⌜ now (pool .exit) ≡ sets (now (pool .entry)) at (now (part .entry)) ⌝ }
+{
+    if pool.len() <= at {
+        return;
+    }
+    if pool.len() < at + part.len() {
+        put_clipped(part, pool, at);
+        return;
+    }
+    put_whole(part, pool, at);
+}
+
+// How many bytes at the front stand for themselves and are letters of one byte.
+fn plain_end(raw: &[u8]) -> usize
+    ensures { λ r. ⌜ r ≡ front plain (now (raw .entry)) ⌝ }
+{
+    let mut i: usize = 0;
+    while i < raw.len() {
+        let b = raw[i];
+        if 127 < b {
+            return i;
+        }
+        if b == 92 {
+            return i;
+        }
+        i += 1;
+    }
+    i
+}
+
 // What stands between the quotes, piece by piece. Each byte goes to the next place of the pool from `at` on, where the pool has that
-// place: lent an empty part it only counts. The answer is the count and whether the bytes are UTF-8.
+// place: lent an empty part it only counts. The answer is the count and whether the bytes are UTF-8. The plain bytes at the front are
+// taken at once: after them the UTF-8 state is what it was before them.
 pub fn decode(raw: &[u8], letters: &[u8; 22], pool: &mut [u8], at: usize) -> Decoded
     requires { ⌜ (now letters ≡ escapes) × (at + length (now raw) < 2 ^ 64) ⌝ }
     ensures answer { λ r. ⌜ r ≡ decodedOf (decode (now (raw .entry))) ⌝ }
     ensures stored { λ _. ⌜ now (pool .exit) ≡ sets (now (pool .entry)) at (decodedFront (now (raw .entry))) ⌝ }
 {
+    let plain = plain_end(raw);
+    put_run(&raw[..plain], pool, at);
     let mut u = WHOLE;
-    let mut n: usize = 0;
-    let mut i: usize = 0;
+    let mut n = plain;
+    let mut i = plain;
     while i < raw.len() {
         let Piece::Byte(b, count) = first_piece(raw, i, letters) else {
             return Decoded::Bad;
