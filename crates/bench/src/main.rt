@@ -21,7 +21,7 @@ fn with_parts(input: &[u8]) {
     if input.len() < 3 {
         return;
     }
-    let length = schema::bits(input, 0, 24) as usize;
+    let length = bits::bits(input, 0, 24) as usize;
     if input.len() - 3 < length {
         return;
     }

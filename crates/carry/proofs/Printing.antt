@@ -16,7 +16,7 @@ use Rattle.definitions.specs.Refusals.{Answer, given, denied, badTable}
 use Rattle.definitions.specs.Validity.{valid}
 use Rattle.definitions.specs.Calls.{barred, unbarred}
 use Rattle.definitions.specs.Print.{Style, printText, printFitted, printAnswer, printBuffer}
-use Rattle.print.specs.Printed.{styleOf}
+use Rattle.fields.specs.Fields.{styleOf}
 use Rattle.text_format.specs.declared.Printed.{Printed}
 use Rattle.text_format.specs.declared.Printed.the-variants as printed
 use Rattle.text_format.specs.Answers.{printedOf}

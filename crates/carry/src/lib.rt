@@ -6,7 +6,7 @@ use text_format::Printed;
 ghost use mathlib.Core.Path.{_≡_};
 ghost use lib.ListN.{length};
 ghost use Rattle.definitions.specs.Print.{printAnswer, printBuffer};
-ghost use Rattle.print.specs.Printed.{styleOf};
+ghost use Rattle.fields.specs.Fields.{styleOf};
 ghost use Rattle.text_format.specs.Answers.{printedOf};
 ghost use Rattle.carry.specs.Answers.{carriedRead};
 ghost use Rattle.carry.specs.Carry.{carryAnswer, carryNodes, carryPool, Carriable, Carries};

@@ -12,7 +12,7 @@ use borrow.Author.Tests.{eqb-true, eqb-false, eq-eqb, ltb-true, not-true, ltb-fa
 use Rattle.definitions.specs.declared.Span.{Span}
 use Rattle.definitions.specs.Basics.{same, all}
 use Rattle.definitions.specs.Bits.{bit, bits}
-use Rattle.definitions.specs.Image.{messageCount, fieldCount, enumCount, valueCount, message, enumeration, field, member, fieldName, memberName, identifier, nameGood, nameCount, fieldZero, fieldAt, keyGood, typeGood, fieldGood, memberGood, total, running, distinct, fieldsAgree, membersAgree, headerGood, recordsGood, accepted, findField, findMember, findNumber}
+use Rattle.definitions.specs.Image.{messageCount, fieldCount, enumCount, valueCount, message, enumeration, field, member, memberAt, fieldName, memberName, identifier, nameGood, nameCount, fieldZero, fieldAt, keyGood, typeGood, fieldGood, memberGood, total, running, distinct, fieldsAgree, membersAgree, headerGood, recordsGood, accepted, findField, findMember, findNumber}
 use Rattle.laws.proofs.Lists.{and-parts, true-false, all-at, same-true, same-refl, find-some, found-find}
 
 pub or-true : (b : Bool) → b || true ≡ true
@@ -97,6 +97,11 @@ bits-below s i (suc w) =
     let h = bits-below s i w in
     let e : 2 ^ suc w ≡ 2 * 2 ^ w = pow-succ' 2 w in
     rw e (omega arith)
+
+-- an enum value's number has 32 bits
+pub member-number : (s : List ℕ) (i : ℕ) → member s i .number < 2 ^ 32
+unfolding member
+member-number s i = bits-below (memberAt s i) 22 32
 
 module _ (s : List ℕ) (ok : Accepted s) where
   module _ (m : ℕ) (here : m < messageCount s) where

@@ -32,7 +32,7 @@ use Rattle.compatibility.proofs.Fitting.{rugged-fits}
 use Rattle.compatibility.proofs.Relabelled.{spelled-names, lacking-none, lacking-some, AllKnown, all-known, relabel-canonical, byName-relabel, render-relabel, relabel-fits, size-relabel, bytes-relabel}
 use Rattle.compatibility.proofs.Places.{Stands, lacking-stands, spelled-stands, Rising, names-rise}
 use Rattle.compatibility.proofs.Rooms.{size-meaning, bytes-render}
-use Rattle.compatibility.proofs.TableGood.{table-valid}
+use Rattle.compatibility.proofs.TableGood.{fits-good, table-valid}
 use Rattle.compatibility.proofs.Tables.{Shaped, fits-shaped, planted-tree, grow-planted, node-laid, length-laid}
 use Rattle.compatibility.proofs.Valid.{valid-rugged}
 
@@ -53,7 +53,7 @@ meaning-laid s root u more after sh cn =
 
 -- ---- what was lent holds it afterwards
 
-sets-front : (l v : List ℕ) → length v ≤ length l → sets l 0 v ≡ v ++ drop (length v) l
+pub sets-front : (l v : List ℕ) → length v ≤ length l → sets l 0 v ≡ v ++ drop (length v) l
 sets-front l v h = let z : 0 + length v ≡ length v = omega arith in sets-eq v l 0 (omega arith) ∙ rw z refl
 
 -- ---- the demand, in a setting
@@ -193,7 +193,8 @@ module _ (newer older : List ℕ) (root : ℕ) (w pool : List ℕ) (y : Style) (
       read-valid =
           rw (nodes-are, pool-is)
           (table-valid older root u (drop (length (tableOver u)) nodes) (drop (length (laidBytes u)) bytes)
-          (relabel-fits newer older okN okO ext mostDepth (inMessage root) (inMessage root) t (refl, here) fits all-names)
+          (fits-good older mostDepth (inMessage root) u
+          (relabel-fits newer older okN okO ext mostDepth (inMessage root) (inMessage root) t (refl, here) fits all-names))
           (omega (arith, size-is, room .nodesFit)))
 
       pub reads : Reads newer older root w pool text nodes bytes

@@ -1,127 +1,193 @@
--- The table that fitting values make, laid down, is valid.
-use Prim.Native.Nat.{ℕ, _+_, _*_, _-_, _/_, _%_, _≤_}
+-- The table that values make, laid down, is valid: what validity asks of them, that values which fit have it, and the table.
+use Prim.Native.Nat.{ℕ, _+_, _*_, _-_, _/_, _%_, _≤_, _<_}
 use native.Mathlib.Omega.{arith}
 use mathlib.Core.Path.{_≡_, refl, ap, _∙_}
-use mathlib.Core.Bool.{Bool, true, false, _||_}
+use mathlib.Core.Bool.{Bool, true, false}
 use mathlib.Core.List.{List, _++_}
-use mathlib.Core.Logic.{_⊎_, inl, inr}
 use lib.Dec.{leb, eqb}
 use lib.ListN.{length, drop, length-append}
 use lib.Seq.{take-append-seam}
-use borrow.Author.Tests.{eqb-true, eq-eqb, le-leb}
+use borrow.Author.Tests.{eq-eqb, le-leb}
+use Rattle.definitions.specs.declared.Node.{Node}
 use Rattle.definitions.specs.declared.Want.{Want}
 use Rattle.definitions.specs.Basics.{if_then_else_, between}
 use Rattle.definitions.specs.Refusals.{mostDepth, mostNodes}
-use Rattle.definitions.specs.Scope.{Scope, inMessage, want, within, hasField, nests, i32, u32, string, enum, mapEntry}
-use Rattle.definitions.specs.Nodes.{nodeAt, tableEnd, runOf, isRun, isUnknown, Forest, grow, forest, tileF, tiles, depth, word32}
+use Rattle.definitions.specs.Scope.{Scope, inMessage, want, within, hasField, nests, i32, i64, u32, u64, bool, string, byteString, enum, body, mapEntry}
+use Rattle.definitions.specs.Nodes.{nodeAt, tableEnd, runOf, isUnknown, grow, forest, tileF, tiles, depth, highOf, lowOf, word32}
 use Rattle.definitions.specs.Utf8.{utf8}
 use Rattle.definitions.specs.Validity.{inRange, runGood, valueGood, isNil, leafGood, fieldFits, isPair, entryGood, forestGood, rootGood, below, valid}
 use Rattle.definitions.specs.Live.{Val, number, run, inside, Tree, nil, node}
 use Rattle.compatibility.specs.Laying.{size, bytesIn, laidBytes, nodeLaid, laidWords, tableOver, planted}
-use Rattle.laws.proofs.Ranges.{inRange-i32, inRange-u32, inRange-enum}
-use Rattle.laws.proofs.Lists.{and-made}
+use Rattle.laws.proofs.Ranges.{SignedIn, inRange-i32, inRange-u32, inRange-enum}
+use Rattle.laws.proofs.Lists.{and-made, true-false}
 use Rattle.compatibility.proofs.Accepted.{or-true}
 use Rattle.compatibility.proofs.Trees.{Pair, Sound, soundI32, soundI64, soundU32, soundU64, soundBool, soundEnum, soundString, soundBytes, soundBody, soundEntry, Fits}
-use Rattle.compatibility.proofs.Fitting.{kids-case}
-use Rattle.compatibility.proofs.Tables.{ShapedVal, sound-shaped, own-bytes, kids-bytes, rest-bytes, grow-planted, tile-planted, length-laid}
+use Rattle.compatibility.proofs.Canon.{Both}
+use Rattle.compatibility.proofs.Tables.{ShapedVal, own-bytes, kids-bytes, rest-bytes, grow-planted, tile-planted, length-laid}
+
+-- ---- what validity asks
+
+-- a number, in the words of a node
+abbrev pub numbered : ℕ → Node
+numbered n = record { kind = 0; field = 0; high = highOf n; low = lowOf n; end = 0 }
+
+-- a number in its kind's range, a string that is UTF-8
+abbrev pub Valued : ℕ → Val → Type 0
+Valued k (number n) = inRange k (numbered n) ≡ true
+Valued k (run bs) = (nests k ≡ false) × (eqb k string ≡ true → utf8 bs ≡ true)
+Valued k inside = Unit {0}
+
+-- a value of a kind, with what lies inside it: nothing, unless it is a message or an entry, which takes one of the levels left; and a
+-- key and a value, in either order, if it is an entry
+pub record Right (left k : ℕ) (v : Val) (kids : Tree) : Type 0 where
+  pub shaped : ShapedVal k v
+  pub value : Valued k v
+  pub leaf : nests k ≡ false → kids ≡ nil
+  pub level : nests k ≡ true → 1 ≤ left
+  pub entry : eqb k mapEntry ≡ true → Both kids
+
+abbrev pub Good : List ℕ → ℕ → Scope → Tree → Type 0
+Good s left c nil = Unit {0}
+Good s left c (node r k v kids rest) =
+    (hasField s c r ≡ true) × (k ≡ want s c r .kind) × Right left k v kids × Good s (left - 1) (within (want s c r)) kids × Good s left c rest
+
+-- ---- kind by kind
+
+right-leaf : (left k : ℕ) (v : Val) → nests k ≡ false → ShapedVal k v → Valued k v → Right left k v nil
+right-leaf left k v e h i = record {
+  shaped = h;
+  value = i;
+  leaf = λ _. refl;
+  level = λ q. true-false (nests k) q e;
+  entry = λ q. let z : nests k ≡ true = rw q (or-true (eqb k body)) in true-false (nests k) z e;
+}
+
+module _ (left : ℕ) where
+  pub right-i32 : (n : ℕ) → SignedIn 32 n → Right left i32 (number n) nil
+  right-i32 n h = right-leaf left i32 (number n) refl (refl, refl, refl) (inRange-i32 (numbered n) n refl refl h)
+
+  pub right-i64 : (n : ℕ) → Right left i64 (number n) nil
+  unfolding inRange
+  right-i64 n = right-leaf left i64 (number n) refl (refl, refl, refl) refl
+
+  pub right-u32 : (n : ℕ) → n < word32 → Right left u32 (number n) nil
+  right-u32 n h = right-leaf left u32 (number n) refl (refl, refl, refl) (inRange-u32 (numbered n) n refl refl h)
+
+  pub right-u64 : (n : ℕ) → Right left u64 (number n) nil
+  unfolding inRange
+  right-u64 n = right-leaf left u64 (number n) refl (refl, refl, refl) refl
+
+  pub right-bool : (n : ℕ) → n ≤ 1 → Right left bool (number n) nil
+  unfolding inRange
+  right-bool n h =
+      right-leaf left bool (number n) refl (refl, refl, refl)
+      (and-made _ _ (eq-eqb (n / word32) 0 (omega arith)) (le-leb (n % word32) 1 (omega arith)))
+
+  pub right-enum : (n : ℕ) → SignedIn 32 n → Right left enum (number n) nil
+  right-enum n h = right-leaf left enum (number n) refl (refl, refl, refl) (inRange-enum (numbered n) n refl refl h)
+
+  pub right-string : (bs : List ℕ) → utf8 bs ≡ true → Right left string (run bs) nil
+  right-string bs u = right-leaf left string (run bs) refl (refl, refl) (refl, λ _. u)
+
+  pub right-bytes : (bs : List ℕ) → Right left byteString (run bs) nil
+  right-bytes bs = right-leaf left byteString (run bs) refl (refl, refl) (refl, λ q. true-false false q refl)
+
+  pub right-body : (t : Tree) → 1 ≤ left → Right left body inside t
+  right-body t h = record {
+    shaped = (refl, refl, refl);
+    value = tt;
+    leaf = λ q. true-false true refl q;
+    level = λ _. h;
+    entry = λ q. true-false false q refl;
+  }
+
+  pub right-entry : (t : Tree) → 1 ≤ left → Both t → Right left mapEntry inside t
+  right-entry t h b = record { shaped = (refl, refl, refl); value = tt; leaf = λ q. true-false true refl q; level = λ _. h; entry = λ _. b }
+
+-- ---- values that fit
+
+pair-both : (t : Tree) → Pair t → Both t
+pair-both nil p = absurd p
+pair-both (node a k v t nil) p = absurd p
+pair-both (node a k v t (node b l u z nil)) p = omega arith
+pair-both (node a k v t (node b l u z (node e m x y o))) p = absurd p
+
+sound-right : (s : List ℕ) (left : ℕ) (w : Want) (k : ℕ) (v : Val) (kids : Tree) → k ≡ w .kind → Sound s left w v kids → Right left k v kids
+sound-right s left w k v kids ek (soundI32 {n = n} e h) = rw (ek ∙ e) (right-i32 left n h)
+sound-right s left w k v kids ek (soundI64 {n = n} e h) = rw (ek ∙ e) (right-i64 left n)
+sound-right s left w k v kids ek (soundU32 {n = n} e h) = rw (ek ∙ e) (right-u32 left n h)
+sound-right s left w k v kids ek (soundU64 {n = n} e h) = rw (ek ∙ e) (right-u64 left n)
+sound-right s left w k v kids ek (soundBool {n = n} e h) = rw (ek ∙ e) (right-bool left n h)
+sound-right s left w k v kids ek (soundEnum {n = n} e j f h) = rw (ek ∙ e) (right-enum left n h)
+sound-right s left w k v kids ek (soundString {bs = bs} e h u) = rw (ek ∙ e) (right-string left bs u)
+sound-right s left w k v kids ek (soundBytes {bs = bs} e h) = rw (ek ∙ e) (right-bytes left bs)
+sound-right s left w k v kids ek (soundBody {t = t} e h) = rw (ek ∙ e) (right-body left t h)
+sound-right s left w k v kids ek (soundEntry {t = t} e h p) = rw (ek ∙ e) (right-entry left t h (pair-both t p))
+
+pub fits-good : (s : List ℕ) (left : ℕ) (c : Scope) (u : Tree) → Fits s left c u → Good s left c u
+fits-good s left c nil f = tt
+fits-good s left c (node r k v kids rest) f = (
+  f .0,
+  f .1,
+  sound-right s left (want s c r) k v kids (f .1) (f .2),
+  fits-good s (left - 1) (within (want s c r)) kids (f .3),
+  fits-good s left c rest (f .4),
+)
 
 -- ---- a value's node
 
 module _ (s pool : List ℕ) where
-  number-good : (r k n : ℕ) (kids : Tree) (i b : ℕ) → isRun k ≡ false → nests k ≡ false → inRange k (nodeLaid r k (number n) kids i b) ≡ true
-      → valueGood pool (nodeLaid r k (number n) kids i b) ≡ true
-  unfolding valueGood
-  number-good r k n kids i b a c h = rw (c, a) h
-
-  inside-good : (r k : ℕ) (kids : Tree) (i b : ℕ) → nests k ≡ true → valueGood pool (nodeLaid r k inside kids i b) ≡ true
-  unfolding valueGood
-  inside-good r k kids i b e = rw e refl
-
-  run-good : (r k : ℕ) (bs : List ℕ) (kids : Tree) (i b : ℕ) (more : List ℕ) → isRun k ≡ true → nests k ≡ false
-      → (eqb k string ≡ true → utf8 bs ≡ true) → drop b pool ≡ bs ++ more → b + length bs ≤ length pool
-      → valueGood pool (nodeLaid r k (run bs) kids i b) ≡ true
-  unfolding valueGood runGood runOf
-  run-good r k bs kids i b more e n u d l = rw (n, e) (and-made _ _ (le-leb (b + length bs) (length pool) l) (go (eqb k string) refl))
+  value-good : (r k : ℕ) (v : Val) (kids : Tree) (i b : ℕ) (more : List ℕ) → ShapedVal k v → Valued k v → drop b pool ≡ bytesIn v ++ more
+      → b + length (bytesIn v) ≤ length pool → valueGood pool (nodeLaid r k v kids i b) ≡ true
+  unfolding valueGood runGood runOf inRange
+  value-good r k (number n) kids i b more h e d l = rw (h .1, h .0) e
+  value-good r k inside kids i b more h e d l = rw (h .1) refl
+  value-good r k (run bs) kids i b more h e d l =
+      rw (e .0, h .0) (and-made _ _ (le-leb (b + length bs) (length pool) l) (go (eqb k string) refl))
     where
       go : (o : Bool) → eqb k string ≡ o → (if eqb k string then (λ _. utf8 (runOf pool (nodeLaid r k (run bs) kids i b))) else λ _. true) ≡ true
-      go true q = rw (q, d, take-append-seam bs more) (u q)
+      go true q = rw (q, d, take-append-seam bs more) (e .1 q)
       go false q = rw q refl
-
-  sound-good : (left : ℕ) (w : Want) (r k : ℕ) (v : Val) (kids : Tree) (i b : ℕ) (more : List ℕ) → k ≡ w .kind → Sound s left w v kids
-      → drop b pool ≡ bytesIn v ++ more → b + length (bytesIn v) ≤ length pool
-      → valueGood pool (nodeLaid r k v kids i b) ≡ true
-  unfolding inRange
-  sound-good left w r k v kids i b more ek (soundI32 {n = n} e h) d l =
-      number-good r k n nil i b (rw (ek ∙ e) refl) (rw (ek ∙ e) refl) (rw (ek ∙ e) (inRange-i32 (nodeLaid r i32 (number n) nil i b) n refl refl h))
-  sound-good left w r k v kids i b more ek (soundI64 {n = n} e h) d l =
-      number-good r k n nil i b (rw (ek ∙ e) refl) (rw (ek ∙ e) refl) (rw (ek ∙ e) refl)
-  sound-good left w r k v kids i b more ek (soundU32 {n = n} e h) d l =
-      number-good r k n nil i b (rw (ek ∙ e) refl) (rw (ek ∙ e) refl) (rw (ek ∙ e) (inRange-u32 (nodeLaid r u32 (number n) nil i b) n refl refl h))
-  sound-good left w r k v kids i b more ek (soundU64 {n = n} e h) d l =
-      number-good r k n nil i b (rw (ek ∙ e) refl) (rw (ek ∙ e) refl) (rw (ek ∙ e) refl)
-  sound-good left w r k v kids i b more ek (soundBool {n = n} e h) d l =
-      number-good r k n nil i b (rw (ek ∙ e) refl) (rw (ek ∙ e) refl)
-      (rw (ek ∙ e) (and-made _ _ (eq-eqb (n / word32) 0 (omega arith)) (le-leb (n % word32) 1 (omega arith))))
-  sound-good left w r k v kids i b more ek (soundEnum {n = n} e j f z) d l =
-      number-good r k n nil i b (rw (ek ∙ e) refl) (rw (ek ∙ e) refl) (rw (ek ∙ e) (inRange-enum (nodeLaid r enum (number n) nil i b) n refl refl z))
-  sound-good left w r k v kids i b more ek (soundString {bs = bs} e h u) d l =
-      run-good r k bs nil i b more (rw (ek ∙ e) refl) (rw (ek ∙ e) refl) (λ q. u) d l
-  sound-good left w r k v kids i b more ek (soundBytes {bs = bs} e h) d l =
-      run-good r k bs nil i b more (rw (ek ∙ e) refl) (rw (ek ∙ e) refl) (λ q. bytes-no q) d l
-    where
-      bytes-no : eqb k string ≡ true → utf8 bs ≡ true
-      bytes-no q = let z = eqb-true k string q in absurd (omega (arith, ek, e))
-  sound-good left w r k v kids i b more ek (soundBody {t = t} e h) d l = inside-good r k t i b (rw (ek ∙ e) refl)
-  sound-good left w r k v kids i b more ek (soundEntry {t = t} e h p) d l = inside-good r k t i b (rw (ek ∙ e) refl)
 
   -- ---- what lies inside
 
-  leaf-good : (left : ℕ) (w : Want) (k : ℕ) (v : Val) (kids : Tree) (i b : ℕ) → k ≡ w .kind → (kids ≡ nil) ⊎ (nests (w .kind) ≡ true)
-      → leafGood k (planted kids i b) ≡ true
+  leaf-good : (k : ℕ) (kids : Tree) (i b : ℕ) → (nests k ≡ false → kids ≡ nil) → leafGood k (planted kids i b) ≡ true
   unfolding isNil planted
-  leaf-good left w k v kids i b ek (inl q) = rw q (or-true (nests k))
-  leaf-good left w k v kids i b ek (inr q) = rw (ek, q) refl
+  leaf-good k kids i b h = go (nests k) refl
+    where
+      go : (o : Bool) → nests k ≡ o → leafGood k (planted kids i b) ≡ true
+      go true q = rw q refl
+      go false q = rw (h q) (or-true (nests k))
 
-  pair-good : (kids : Tree) (i b : ℕ) → Pair kids → isPair (planted kids i b) ≡ true
+  pair-good : (kids : Tree) (i b : ℕ) → Both kids → isPair (planted kids i b) ≡ true
   unfolding isPair planted
   pair-good nil i b p = absurd p
   pair-good (node a k v t nil) i b p = absurd p
-  pair-good (node a k v t (node c l u z nil)) i b p = eq-eqb (a + c) 1 (omega arith)
+  pair-good (node a k v t (node c l u z nil)) i b p = eq-eqb (a + c) 1 p
   pair-good (node a k v t (node c l u z (node e m x y o))) i b p = absurd p
 
-  not-entry-good : (k : ℕ) (F : Forest) → eqb k mapEntry ≡ false → entryGood k F ≡ true
-  not-entry-good k F e = rw e refl
-
-  entry-good : (left : ℕ) (w : Want) (k : ℕ) (v : Val) (kids : Tree) (i b : ℕ) → k ≡ w .kind → Sound s left w v kids
-      → entryGood k (planted kids i b) ≡ true
-  entry-good left w k v kids i b ek (soundI32 e h) = not-entry-good k (planted nil i b) (rw (ek ∙ e) refl)
-  entry-good left w k v kids i b ek (soundI64 e h) = not-entry-good k (planted nil i b) (rw (ek ∙ e) refl)
-  entry-good left w k v kids i b ek (soundU32 e h) = not-entry-good k (planted nil i b) (rw (ek ∙ e) refl)
-  entry-good left w k v kids i b ek (soundU64 e h) = not-entry-good k (planted nil i b) (rw (ek ∙ e) refl)
-  entry-good left w k v kids i b ek (soundBool e h) = not-entry-good k (planted nil i b) (rw (ek ∙ e) refl)
-  entry-good left w k v kids i b ek (soundEnum e j f z) = not-entry-good k (planted nil i b) (rw (ek ∙ e) refl)
-  entry-good left w k v kids i b ek (soundString e h u) = not-entry-good k (planted nil i b) (rw (ek ∙ e) refl)
-  entry-good left w k v kids i b ek (soundBytes e h) = not-entry-good k (planted nil i b) (rw (ek ∙ e) refl)
-  entry-good left w k v kids i b ek (soundBody {t = t} e h) = not-entry-good k (planted t i b) (rw (ek ∙ e) refl)
-  entry-good left w k v kids i b ek (soundEntry {t = t} e h p) = rw (ek ∙ e) (pair-good t i b p)
+  entry-good : (k : ℕ) (kids : Tree) (i b : ℕ) → (eqb k mapEntry ≡ true → Both kids) → entryGood k (planted kids i b) ≡ true
+  entry-good k kids i b h = go (eqb k mapEntry) refl
+    where
+      go : (o : Bool) → eqb k mapEntry ≡ o → entryGood k (planted kids i b) ≡ true
+      go true q = rw q (pair-good kids i b (h q))
+      go false q = rw q refl
 
   known-kind : (k : ℕ) (v : Val) → ShapedVal k v → isUnknown k ≡ false
   known-kind k (number n) h = h .2
   known-kind k (run bs) h = h .1
   known-kind k inside h = h .2
 
-  field-good : (left : ℕ) (c : Scope) (r k : ℕ) (v : Val) (kids : Tree) (i b : ℕ) → hasField s c r ≡ true → k ≡ want s c r .kind
-      → Sound s left (want s c r) v kids → fieldFits s c (nodeLaid r k v kids i b) ≡ true
+  field-good : (c : Scope) (r k : ℕ) (v : Val) (kids : Tree) (i b : ℕ) → hasField s c r ≡ true → k ≡ want s c r .kind → ShapedVal k v
+      → fieldFits s c (nodeLaid r k v kids i b) ≡ true
   unfolding fieldFits
-  field-good left c r k v kids i b has ek sd =
-      rw (known-kind k v (sound-shaped s left (want s c r) k v kids ek sd)) (and-made _ _ has (eq-eqb k (want s c r .kind) ek))
+  field-good c r k v kids i b has ek h = rw (known-kind k v h) (and-made _ _ has (eq-eqb k (want s c r .kind) ek))
 
-  forest-good : (left : ℕ) (c : Scope) (u : Tree) (i b : ℕ) (after : List ℕ) → Fits s left c u → drop b pool ≡ laidBytes u ++ after
+  forest-good : (left : ℕ) (c : Scope) (u : Tree) (i b : ℕ) (after : List ℕ) → Good s left c u → drop b pool ≡ laidBytes u ++ after
       → b + length (laidBytes u) ≤ length pool → forestGood s pool c (planted u i b) ≡ true
   unfolding forestGood planted laidBytes
   forest-good left c nil i b after f d l = refl
   forest-good left c (node r k v kids rest) i b after f d l =
-      let w = want s c r in
       let lk : length (bytesIn v ++ (laidBytes kids ++ laidBytes rest)) ≡ length (bytesIn v) + (length (laidBytes kids) + length (laidBytes rest)) =
       length-append (bytesIn v) (laidBytes kids ++ laidBytes rest)
       ∙ ap (λ (n : ℕ). length (bytesIn v) + n) (length-append (laidBytes kids) (laidBytes rest)) in
@@ -129,42 +195,30 @@ module _ (s pool : List ℕ) where
       (and-made _ _
       (and-made _ _
       (and-made _ _
-      (and-made _ _ (field-good left c r k v kids i b (f .0) (f .1) (f .2))
-      (sound-good left w r k v kids i b (laidBytes kids ++ (laidBytes rest ++ after)) (f .1) (f .2) (own-bytes pool v kids rest b after d)
+      (and-made _ _ (field-good c r k v kids i b (f .0) (f .1) (f .2 .shaped))
+      (value-good r k v kids i b (laidBytes kids ++ (laidBytes rest ++ after)) (f .2 .shaped) (f .2 .value) (own-bytes pool v kids rest b after d)
       (omega arith)))
-      (leaf-good left w k v kids (i + 1) (b + length (bytesIn v)) (f .1) (kids-case s left w v kids (f .2))))
-      (entry-good left w k v kids (i + 1) (b + length (bytesIn v)) (f .1) (f .2)))
-      (forest-good (left - 1) (within w) kids (i + 1) (b + length (bytesIn v)) (laidBytes rest ++ after) (f .3)
+      (leaf-good k kids (i + 1) (b + length (bytesIn v)) (f .2 .leaf)))
+      (entry-good k kids (i + 1) (b + length (bytesIn v)) (f .2 .entry)))
+      (forest-good (left - 1) (within (want s c r)) kids (i + 1) (b + length (bytesIn v)) (laidBytes rest ++ after) (f .3)
       (kids-bytes pool v kids rest b after d) (omega arith)))
       (forest-good left c rest (i + 1 + size kids) (b + length (bytesIn v) + length (laidBytes kids)) after (f .4)
       (rest-bytes pool v kids rest b after d) (omega arith))
 
   -- ---- not too deep
 
-  levels : (left : ℕ) (w : Want) (v : Val) (kids : Tree) → Sound s left w v kids → (nests (w .kind) ≡ false) ⊎ ((nests (w .kind) ≡ true) × (1 ≤ left))
-  levels left w v kids (soundI32 e h) = inl (rw e refl)
-  levels left w v kids (soundI64 e h) = inl (rw e refl)
-  levels left w v kids (soundU32 e h) = inl (rw e refl)
-  levels left w v kids (soundU64 e h) = inl (rw e refl)
-  levels left w v kids (soundBool e h) = inl (rw e refl)
-  levels left w v kids (soundEnum e i f z) = inl (rw e refl)
-  levels left w v kids (soundString e h u) = inl (rw e refl)
-  levels left w v kids (soundBytes e h) = inl (rw e refl)
-  levels left w v kids (soundBody e h) = inr (rw e refl, h)
-  levels left w v kids (soundEntry e h p) = inr (rw e refl, h)
-
-  depth-good : (left : ℕ) (c : Scope) (u : Tree) (i b : ℕ) → Fits s left c u → depth (planted u i b) ≤ left
+  depth-good : (left : ℕ) (c : Scope) (u : Tree) (i b : ℕ) → Good s left c u → depth (planted u i b) ≤ left
   unfolding depth planted
   depth-good left c nil i b f = omega arith
   depth-good left c (node r k v kids rest) i b f =
       go (depth-good (left - 1) (within (want s c r)) kids (i + 1) (b + length (bytesIn v)) (f .3))
-      (depth-good left c rest (i + 1 + size kids) (b + length (bytesIn v) + length (laidBytes kids)) (f .4)) (levels left (want s c r) v kids (f .2))
+      (depth-good left c rest (i + 1 + size kids) (b + length (bytesIn v) + length (laidBytes kids)) (f .4)) (nests k) refl
     where
       go : depth (planted kids (i + 1) (b + length (bytesIn v))) ≤ left - 1
           → depth (planted rest (i + 1 + size kids) (b + length (bytesIn v) + length (laidBytes kids))) ≤ left
-          → (nests (want s c r .kind) ≡ false) ⊎ ((nests (want s c r .kind) ≡ true) × (1 ≤ left)) → depth (planted (node r k v kids rest) i b) ≤ left
-      go a d (inl q) = let n : nests k ≡ false = rw (f .1) q in rw (n, depth) d
-      go a d (inr q) = let n : nests k ≡ true = rw (f .1) (q .0) in rw (n, depth) (omega arith)
+          → (o : Bool) → nests k ≡ o → depth (planted (node r k v kids rest) i b) ≤ left
+      go a d false q = rw (q, depth) d
+      go a d true q = let h = f .2 .level q in rw (q, depth) (omega arith)
 
 -- ---- the whole table, whatever follows it
 
@@ -179,7 +233,7 @@ end-is : (u : Tree) (more : List ℕ) → tableEnd (tableOver u ++ more) ≡ 1 +
 unfolding tableEnd nodeAt
 end-is u more = refl
 
-pub table-valid : (s : List ℕ) (root : ℕ) (u : Tree) (more after : List ℕ) → Fits s mostDepth (inMessage root) u → 1 + size u ≤ mostNodes
+pub table-valid : (s : List ℕ) (root : ℕ) (u : Tree) (more after : List ℕ) → Good s mostDepth (inMessage root) u → 1 + size u ≤ mostNodes
     → valid s root (tableOver u ++ more) (laidBytes u ++ after) ≡ true
 unfolding valid below forest tiles
 table-valid s root u more after f h =

@@ -58,7 +58,7 @@ has-in s m i e =
     let h = and-parts (leb (message s m .first) i) (ltb i (message s m .first + message s m .count)) e in
     (leb-true _ _ (h .0), ltb-true _ _ (h .1))
 
-in-has : (s : List ℕ) (m i : ℕ) → In (message s m) i → hasField s (inMessage m) i ≡ true
+pub in-has : (s : List ℕ) (m i : ℕ) → In (message s m) i → hasField s (inMessage m) i ≡ true
 unfolding hasField
 in-has s m i h = and-made _ _ (le-leb _ _ (h .0)) (lt-ltb _ _ (h .1))
 
@@ -100,7 +100,7 @@ unfolding typeGood
 not-entry s f e k = true-false false (rw (k, typeGood) at e) refl
 
 -- a map's key is neither an enum nor a message nor an entry
-key-small : (f : Field) → isMap f ≡ true → keyGood f ≡ true → f .key ≤ 6
+pub key-small : (f : Field) → isMap f ≡ true → keyGood f ≡ true → f .key ≤ 6
 key-small f m e = leb-true _ _ (and-parts (leb 1 (f .key)) (leb (f .key) 6) (rw m at e) .1)
 
 pub nests-is : (k : ℕ) → nests k ≡ true → (k ≡ mapEntry → ⊥) → k ≡ body

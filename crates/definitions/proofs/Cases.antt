@@ -1,5 +1,5 @@
 -- What the lists of examples are written in: schemas, and a reading, a call or an extension with its outcome.
-use Prim.Native.Nat.{ℕ, zero, suc, _+_, _*_, _/_, _%_}
+use Prim.Native.Nat.{ℕ, _+_, _*_, _/_, _%_}
 use mathlib.Core.Bool.{Bool}
 use mathlib.Core.List.{List, [], _∷_, _++_}
 use mathlib.Core.Option.{Option, none, some}
@@ -8,7 +8,10 @@ use Rattle.definitions.specs.Basics.{bytes}
 use Rattle.definitions.specs.Refusals.{Answer, given, denied}
 use Rattle.definitions.specs.Image.{accepted}
 use Rattle.definitions.specs.Extending.{extends}
-use Rattle.definitions.specs.Reading.{Made, whole, wordsOf, bytesOf, readAnswer}
+use Rattle.definitions.specs.Scope.{inMessage}
+use Rattle.definitions.specs.Tokens.{endOfText}
+use Rattle.definitions.specs.Loop.{Out, done, refused}
+use Rattle.definitions.specs.Reading.{Made, whole, wordsOf, bytesOf, readBody, readAnswer}
 use Rattle.definitions.specs.Print.{Style, compact, pretty, printText}
 
 -- schema E of document 01, with the type of `id`, which is 1 (i32) there
@@ -64,11 +67,6 @@ schemaOf f fields v members =
 abbrev pub judged : (newer older : List ℕ) → List Bool
 judged newer older = accepted older ∷ extends newer older ∷ []
 
--- n copies of a text, and what comes after them
-abbrev pub times : ℕ → List ℕ → List ℕ → List ℕ
-times zero s rest = rest
-times (suc n) s rest = s ++ times n s rest
-
 -- ---- a text read under message 0 with room enough, and printed again both ways
 
 pub data Outcome : Type 0 where
@@ -102,6 +100,15 @@ refusal (given a) = granted
 -- a text read under message 0 with room enough
 abbrev pub reading : List ℕ → List ℕ → Refusal
 reading schema s = refusal (readAnswer schema 0 s 1000 1000)
+
+-- what a body read is refused for
+abbrev pub ended : Out → Refusal
+ended (refused why at) = by why (at .offset)
+ended (done q w b) = granted
+
+-- a text read as the body of message 0, with so many levels left below it
+abbrev pub levels : ℕ → List ℕ → List ℕ → Refusal
+levels left schema s = ended (readBody left schema s (inMessage 0) endOfText (record { at = 0; node = 1; byte = 0 }))
 
 -- a text of so many bytes, before it is looked at
 abbrev pub ofLength : Option ℕ → Refusal

@@ -1,11 +1,12 @@
 -- The examples, by computing: (a) to (j) of document 01, one statement over a list; each refusal 1 to 18 beside its nearest
--- neighbour that is granted, one statement over a list; prints of tables that no text makes, one statement over a list; and what a
+-- neighbour that is granted, one statement over a list; the limits; prints of tables that no text makes, one statement over a list; and what a
 -- schema extends and what not, one statement over a list.
 use mathlib.Core.Path.{_≡_, refl}
 use Prim.Native.Nat.{ℕ}
 use mathlib.Core.Bool.{Bool, true, false}
 use mathlib.Core.List.{List, [], _∷_, _++_, map}
 use Rattle.definitions.specs.Basics.{bytes, same, each, all, any, find}
+use Rattle.definitions.specs.Refusals.{mostText, mostNodes, mostDepth, mostNumber}
 use Rattle.definitions.specs.Bits.{bit, bits}
 use Rattle.definitions.specs.Image.{form, messageCount, fieldCount, enumCount, valueCount, nameCount, messagesAt, fieldsAt, enumsAt, valuesAt, namesAt, imageLength, message, enumeration, fieldAt, field, memberAt, member, identifier, nameText, fieldName, memberName, nameGood, total, running, typeGood, fieldGood, memberGood, distinct, fieldsAgree, membersAgree, headerGood, recordsGood, accepted, isMessage, findField, findMember, findNumber}
 use Rattle.definitions.specs.Extending.{sameField, embedded, messageExtends, sameMember, enumExtends, extends}
@@ -26,7 +27,7 @@ use Rattle.definitions.specs.Print as print
 use Rattle.definitions.specs.Print.{compact, printText, printAnswer}
 use Rattle.definitions.specs.Required.{filled, filledIn, filledBelow, complete, requiredAnswer}
 use Rattle.definitions.specs.Access.{isValue, valueAnswer}
-use Rattle.definitions.proofs.Cases.{Case, Outcome, reads, refuses, outcome, schemaE, schemaX, schemaNamed, fieldOf, memberOf, schemaOf, judged, times, Refusal, by, granted, refusal, reading, ofLength}
+use Rattle.definitions.proofs.Cases.{Case, Outcome, reads, refuses, outcome, schemaE, schemaX, schemaNamed, fieldOf, memberOf, schemaOf, judged, Refusal, by, granted, refusal, reading, levels, ofLength}
 
 -- the value of `id` retyped, (c) and (d)
 abbrev of : ℕ → List ℕ → Case
@@ -94,14 +95,6 @@ expected =
 
 -- ---- refusals
 
--- the child of a child, and so on, n deep
-abbrev children : ℕ → List ℕ
-children n = times n (bytes "child{") (times n (bytes "}") [])
-
--- an entry with defaults, below n messages
-abbrev entryBelow : ℕ → List ℕ
-entryBelow n = times n (bytes "m{") (bytes "mm{}" ++ times n (bytes "}") [])
-
 -- a root with one string, `name`, of so many bytes, and so many nodes
 abbrev named : ℕ → ℕ → List ℕ
 named count end = 9 ∷ 0 ∷ 0 ∷ 0 ∷ end ∷ 6 ∷ 1 ∷ 0 ∷ count ∷ 2 ∷ []
@@ -126,10 +119,10 @@ refusals =
     ∷ reading schemaX (bytes "b: true b:")
     ∷ reading schemaX (bytes "y: '\\377' y: '\\400'")
     ∷ reading (schemaE 1) (bytes "name: '\\377'")
-    ∷ reading (schemaE 1) (children 32)
-    ∷ reading (schemaE 1) (children 33)
-    ∷ reading schemaX (entryBelow 30)
-    ∷ reading schemaX (entryBelow 31)
+    ∷ levels 1 (schemaE 1) (bytes "child{}")
+    ∷ levels 0 (schemaE 1) (bytes "child{}")
+    ∷ levels 2 schemaX (bytes "mm{}")
+    ∷ levels 1 schemaX (bytes "mm{}")
     ∷ refusal (readAnswer (schemaE 1) 0 (bytes "name: 'ab'") 9 1)
     ∷ refusal (readAnswer (schemaE 1) 0 (bytes "name: 'ab'") 10 1)
     ∷ refusal (readAnswer (schemaE 1) 0 (bytes "name: 'ab'") 10 2)
@@ -164,10 +157,10 @@ refusalsExpected =
     ∷ by 10 10  -- the end of the text, where a bool is wanted
     ∷ by 11 13  -- an escape over 255
     ∷ by 11 6  -- a string that is not UTF-8
-    ∷ granted  -- depth 32
-    ∷ by 12 197  -- depth 33
-    ∷ granted  -- a default message at depth 32
-    ∷ by 12 65  -- and at depth 33, at the entry's closer
+    ∷ granted  -- a level left
+    ∷ by 12 5  -- none left
+    ∷ granted  -- one for the entry and one for its default message
+    ∷ by 12 3  -- one alone, at the entry's closer
     ∷ by 13 2  -- 13 comes before 14
     ∷ by 14 2
     ∷ granted
@@ -181,6 +174,14 @@ refusalsExpected =
     ∷ granted
     ∷ by 18 0  -- no such node
     ∷ []
+
+-- ---- limits
+
+abbrev limits : List ℕ
+limits = mostText ∷ mostNodes ∷ mostDepth ∷ mostNumber ∷ []
+
+abbrev limitsExpected : List ℕ
+limitsExpected = 1048576 ∷ 65535 ∷ 32 ∷ 536870911 ∷ []
 
 -- ---- prints
 
@@ -269,7 +270,7 @@ extensionsExpected =
     ∷ no  -- fields that the newer does not have
     ∷ []
 
-computed : (map outcome cases ≡ expected) × (refusals ≡ refusalsExpected) × (prints ≡ printsExpected) × (map (judged newer) olders ≡ extensionsExpected)
+computed : (map outcome cases ≡ expected) × (refusals ≡ refusalsExpected) × (limits ≡ limitsExpected) × (prints ≡ printsExpected) × (map (judged newer) olders ≡ extensionsExpected)
 unfolding same each all any find bit bits
     form messageCount fieldCount enumCount valueCount nameCount messagesAt fieldsAt enumsAt valuesAt namesAt imageLength
     message enumeration fieldAt field memberAt member identifier nameText fieldName memberName nameGood total running typeGood
@@ -286,7 +287,7 @@ unfolding same each all any find bit bits
     read.item read.fields read.under read.readBody read.whole read.readBarred read.readAnswer
     print.digits print.decimal print.signedDecimal print.quoteByte print.quoteBytes print.quoted print.numberText print.label
     print.indent print.lead print.trail print.opening print.closing print.render print.printText print.printAnswer filled filledIn filledBelow complete requiredAnswer isValue valueAnswer
-computed = (refl, refl, refl, refl)
+computed = (refl, refl, refl, refl, refl)
 
 pub examples : map outcome cases ≡ expected
 examples = computed .0
@@ -294,8 +295,11 @@ examples = computed .0
 pub refused : refusals ≡ refusalsExpected
 refused = computed .1
 
+pub limited : limits ≡ limitsExpected
+limited = computed .2
+
 pub printed : prints ≡ printsExpected
-printed = computed .2
+printed = computed .3
 
 pub extended : map (judged newer) olders ≡ extensionsExpected
-extended = computed .3
+extended = computed .4

@@ -1,4 +1,10 @@
-// The types that the definitions share with the code above them. There is no function here: the rules stand in specs/.
+// The types that the definitions share with the code above them, and the format's numbers by name. There is no function here: the rules
+// stand in specs/.
+pub mod kinds;
+pub mod labels;
+pub mod limits;
+pub mod refusals;
+pub mod tokens;
 
 // A run of records: the fields of a message, or the values of an enum (H, "Schema image").
 pub struct Span {

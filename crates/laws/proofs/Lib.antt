@@ -1,5 +1,7 @@
 -- Laws of the definitions that the crates above cite, a file for each concern.
 pub mod Lists
+pub mod Tests
+pub mod Stores
 pub mod ClassTable
 pub mod Reach
 pub mod Decoding

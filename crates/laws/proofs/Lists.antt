@@ -7,7 +7,7 @@ use mathlib.Core.Path.{_≡_, refl, sym, ap, ap₂, _∙_, subst}
 use mathlib.Core.List.{List, [], _∷_, _++_}
 use mathlib.Core.Option.{Option, none, some}
 use lib.Dec.{eqb, ltb}
-use lib.ListN.{length, drop, getD}
+use lib.ListN.{length, take, drop, getD}
 use lib.Seq.{getD-drop, drop-append-seam, take-at}
 use borrow.Author.Tests.{ltb-true, ltb-false, eqb-true, eqb-false, eq-eqb}
 use Rattle.definitions.specs.Basics.{same, each, all, any, find, part}
@@ -238,6 +238,16 @@ front-each p [] (b ∷ bs) h s = rw (s, front)
 front-each p (x ∷ xs) r h s =
     let e = and-parts (p x) (each p xs) h in
     rw (e .0, front) (ap suc (front-each p xs r (e .1) s))
+
+-- the front is what passes
+pub front-passes : (p : ℕ → Bool) (s : List ℕ) → each p (take (front p s) s) ≡ true
+unfolding front each
+front-passes p [] = refl
+front-passes p (b ∷ bs) = go (p b) refl (front-passes p bs)
+  where
+    go : (t : Bool) → p b ≡ t → each p (take (front p bs) bs) ≡ true → each p (take (front p (b ∷ bs)) (b ∷ bs)) ≡ true
+    go true e h = rw (e, front) (and-made (p b) (each p (take (front p bs) bs)) e h)
+    go false e h = rw (e, front) refl
 
 -- ---- bytes: each element is below 256, as what is known of a slice of bytes says it
 

@@ -9,44 +9,19 @@ use native.Mathlib.Numerals.{add-one}
 use native.Mathlib.Nat.{not-suc-le-zero}
 use mathlib.Core.Option.{Option, none, some}
 use lib.Dec.{ltb, eqb}
-use lib.ListN.{length, getD, take, drop, drop-of-length-le}
+use lib.ListN.{length, getD, drop, drop-of-length-le}
 use lib.Seq.{drop-cons, drop-drop}
-use borrow.Author.Tests.{eq-eqb, ne-eqb, eqb-false, lt-ltb}
-use Rattle.definitions.specs.Basics.{if_then_else_, each}
+use borrow.Author.Tests.{eq-eqb, ne-eqb, eqb-true, eqb-false, lt-ltb, ltb-true}
+use Rattle.definitions.specs.Basics.{if_then_else_}
 use Rattle.definitions.specs.Refusals.{place}
 use Rattle.definitions.specs.Image.{digit}
 use Rattle.definitions.specs.Classes.{classes, class, goesOn, quoteClass, newlineClass, spaceClass, commentClass, symbolClass, digitClass, letterClass}
 use Rattle.definitions.specs.Integers.{front, octalDigit, hexDigit, hexAhead, integerLength, runsOn}
-use Rattle.definitions.specs.Tokens.{bad, endOfText, gap, inside, integerScan, integerToken, nameToken, oneMore, scan, scanFrom, skip, stringScan, stringToken, tokenOf}
-use Rattle.laws.proofs.Lists.{and-made}
+use Rattle.definitions.specs.Tokens.{bad, colon, endOfText, gap, inside, integerScan, integerToken, nameToken, oneMore, scan, scanFrom, skip, stringScan, stringToken, tokenOf}
+use Rattle.laws.proofs.Lists.{and-parts}
 use Rattle.lexer.specs.declared.tokens.Closing.{Closing}
 use Rattle.lexer.specs.declared.tokens.Closing.the-variants as closing
 use Rattle.lexer.specs.Steps.{line, breaks, closingOf}
-
--- ---- how far the bytes from a place on pass a test
-
-pub front-on : (p : ℕ → Bool) (s : List ℕ) (i : ℕ) → i < length s → p (getD s i 0) ≡ true
-    → i + 1 + front p (drop (i + 1) s) ≡ i + front p (drop i s)
-unfolding front
-front-on p s i h e = rw (drop-cons s i 0) (simp (e, add-one) (omega arith))
-
-pub front-stop : (p : ℕ → Bool) (s : List ℕ) (i : ℕ) → i < length s → p (getD s i 0) ≡ false → i ≡ i + front p (drop i s)
-unfolding front
-front-stop p s i h e = rw (drop-cons s i 0) (simp e (omega arith))
-
-pub front-end : (p : ℕ → Bool) (s : List ℕ) (i : ℕ) → length s ≤ i → i ≡ i + front p (drop i s)
-unfolding front
-front-end p s i h = rw (drop-of-length-le s h) (omega arith)
-
--- the bytes of the front pass
-pub front-passes : (p : ℕ → Bool) (s : List ℕ) → each p (take (front p s) s) ≡ true
-unfolding front each
-front-passes p [] = refl
-front-passes p (b ∷ bs) = go (p b) refl (front-passes p bs)
-  where
-    go : (t : Bool) → p b ≡ t → each p (take (front p bs) bs) ≡ true → each p (take (front p (b ∷ bs)) (b ∷ bs)) ≡ true
-    go true e h = rw (e, front) (and-made (p b) (each p (take (front p bs) bs)) e h)
-    go false e h = rw (e, front) refl
 
 -- ---- a comment's rest, from a place on
 
@@ -314,3 +289,23 @@ module _ (s : List ℕ) (i : ℕ) (h : i < length s) {c : ℕ} (e : c ≡ class 
 pub scan-at : (s : List ℕ) (at i : ℕ) → i ≡ skip s at → scanFrom i (drop i s) ≡ scan s at
 unfolding scan
 scan-at s at i e = rw e
+
+-- ---- a colon taken without a scan
+
+-- a colon that stands right here, by the test for it
+pub colon-there : (s : List ℕ) (at : ℕ) (r : Bool) → r ≡ (ltb at (length s) && eqb (getD s at 0) colon) → r ≡ true → (at < length s) × (getD s at 0 ≡ colon)
+colon-there s at r e h =
+    let p = and-parts (ltb at (length s)) (eqb (getD s at 0) colon) (sym e ∙ h) in
+    (ltb-true at (length s) (p .0), eqb-true (getD s at 0) colon (p .1))
+
+symbol-here : (s r : List ℕ) (at c : ℕ) → drop at s ≡ c ∷ r → class c ≡ symbolClass → scan s at ≡ tokenOf c at (at + 1)
+unfolding scan skip gap scanFrom
+symbol-here s r at c d k =
+    let g : gap false (drop at s) ≡ 0 = rw (d, k) refl in
+    let z : at + 0 ≡ at = omega arith in
+    rw (g, z, d, k) refl
+
+-- is the token that a scan finds
+pub colon-here : (s : List ℕ) (at : ℕ) → at < length s → getD s at 0 ≡ colon → scan s at ≡ tokenOf colon at (at + 1)
+unfolding class classes
+colon-here s at h e = symbol-here s (drop (suc at) s) at colon (drop-cons s at 0 h ∙ ap (λ (b : ℕ). b ∷ drop (suc at) s) e) refl

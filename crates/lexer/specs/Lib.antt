@@ -1,3 +1,2 @@
--- What the lexer's answers are, beside the definitions of the crate `definitions`.
+-- What the scanner's answers are, beside the definitions of the crate `definitions`.
 pub mod Steps
-pub mod Values

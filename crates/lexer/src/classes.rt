@@ -292,7 +292,7 @@ pub fn table() -> [u8; 256]
 }
 
 // The class of a byte, as the rule has it.
-pub fn class_of(b: u8, table: &[u8; 256]) -> u8
+pub(crate) fn class_of(b: u8, table: &[u8; 256]) -> u8
     requires { ⌜ now table ≡ classes ⌝ }
     ensures { λ r. ⌜ (r ≡ class b) × (r ≡ classRule b) ⌝ }
 {

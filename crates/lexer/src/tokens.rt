@@ -8,28 +8,22 @@ use crate::classes::QUOTE;
 use crate::classes::SPACE;
 use crate::classes::SYMBOL;
 use crate::classes::class_of;
-use crate::integers::hex_digit;
 use definitions::Place;
+use definitions::Spot;
 use definitions::Token;
-ghost use mathlib.Core.Bool.{false};
+use definitions::tokens;
+use integers::hex_digit;
+ghost use mathlib.Core.Bool.{false, _&&_};
 ghost use mathlib.Core.Path.{_≡_};
 ghost use Prim.Native.Nat.{_+_, _<_};
-ghost use lib.ListN.{length, drop};
+ghost use lib.Dec.{eqb, ltb};
+ghost use lib.ListN.{length, drop, getD};
 ghost use Rattle.definitions.specs.Basics.{between};
 ghost use Rattle.definitions.specs.Classes.{classes, class, goesOn, quoteClass};
 ghost use Rattle.definitions.specs.Integers.{front, hexDigit, integerLength, runsOn};
 ghost use Rattle.definitions.specs.Refusals.{place};
-ghost use Rattle.definitions.specs.Tokens.{bad, inside, integerScan, scan, skip, stringScan, tokenOf};
+ghost use Rattle.definitions.specs.Tokens.{bad, colon, inside, integerScan, scan, skip, stringScan, tokenOf};
 ghost use Rattle.lexer.specs.Steps.{stepOf, line, breaks, closingOf};
-
-// The kinds of tokens; a symbol's kind is its byte.
-pub const END: u8 = 0;
-
-pub const NAME: u8 = 1;
-
-pub const INTEGER: u8 = 2;
-
-pub const STRING: u8 = 3;
 
 // Where reading stands in the text.
 pub struct Cursor {
@@ -242,7 +236,7 @@ fn integer(text: &[u8], at: usize, first: u8, table: &[u8; 256]) -> Step
     if runs_on(text, end, table) {
         return bad(at);
     }
-    token(INTEGER, at, end)
+    token(tokens::INTEGER, at, end)
 }
 
 // A string: a quote, what stands inside, and the same quote.
@@ -253,7 +247,17 @@ fn string(text: &[u8], at: usize, quote: u8, table: &[u8; 256]) -> Step
     let Closing::Before(next) = string_end(text, at + 1, quote, table) else {
         return bad(at);
     };
-    token(STRING, at, next)
+    token(tokens::STRING, at, next)
+}
+
+// A colon that stands right here.
+fn is_colon(text: &[u8], at: usize) -> bool
+    ensures { λ r. ⌜ r ≡ (ltb at (length (now (text .entry))) && eqb (getD (now (text .entry)) at 0) colon) ⌝ }
+{
+    if at < text.len() {
+        return text[at] == tokens::COLON;
+    }
+    false
 }
 
 impl Cursor {
@@ -265,15 +269,37 @@ impl Cursor {
         let from = self.at;
         let at = skip(text, from, table);
         if text.len() <= at {
-            return token(END, at, at);
+            return token(tokens::END, at, at);
         }
         let b = text[at];
         match class_of(b, table) {
-            LETTER => token(NAME, at, name_end(text, at + 1, table)),
+            LETTER => token(tokens::NAME, at, name_end(text, at + 1, table)),
             DIGIT => integer(text, at, b, table),
             QUOTE => string(text, at, b, table),
             SYMBOL => token(b, at, at + 1),
             _ => bad(at),
         }
+    }
+
+    // The next token from a spot on.
+    pub fn next_from(q: Spot, text: &[u8], table: &[u8; 256]) -> Step
+        requires { ⌜ now table ≡ classes ⌝ }
+        ensures { λ r. ⌜ r ≡ stepOf (scan (now (text .entry)) (q .at)) ⌝ }
+    {
+        let c = Cursor { at: q.at };
+        c.next(text, table)
+    }
+
+    // The same where a colon is due: one that stands right there is taken without a scan.
+    pub fn colon_from(q: Spot, text: &[u8], table: &[u8; 256]) -> Step
+        requires { ⌜ now table ≡ classes ⌝ }
+        ensures { λ r. ⌜ r ≡ stepOf (scan (now (text .entry)) (q .at)) ⌝ }
+    {
+        let at = q.at;
+        if is_colon(text, at) {
+            let next = at + 1;
+            return token(tokens::COLON, at, next);
+        }
+        Cursor::next_from(q, text, table)
     }
 }

@@ -21,14 +21,15 @@ use Rattle.definitions.specs.Required.{filled, filledIn, complete}
 use Rattle.laws.proofs.Lists.{all-fails, and-made}
 use Rattle.laws.proofs.Forest.{endOf, Tiled, tiles-le, tiles-parts}
 use Rattle.laws.proofs.Canon.{filledAt, liveBelow, complete-canon}
-use Rattle.schema.proofs.Accepted.{message-inside}
-use Rattle.message.specs.Span.{There, Sound}
-use Rattle.message.specs.Live.{liveAt}
-use Rattle.message.proofs.Scopes.{within-entry, within-message, there-message, there-want, nests-known}
-use Rattle.message.proofs.Checks.{fits-known}
-use Rattle.message.proofs.Sounds.{sound-tiled, sound-tree, sound-rest, sound-kids, rank-known}
-use Rattle.message.proofs.Trees.{tree-none, tree-some}
-use Rattle.message.proofs.Lives.{kidsOf, fromOn}
+use Rattle.records.proofs.Accepted.{message-inside}
+use Rattle.nodes.specs.Span.{There, Sound}
+use Rattle.live.specs.Live.{liveAt}
+use Rattle.nodes.proofs.Scopes.{within-entry, within-message, there-message, there-want, nests-known}
+use Rattle.validity.proofs.Checks.{fits-known}
+use Rattle.nodes.proofs.Ranks.{rank-known}
+use Rattle.live.proofs.Sounds.{sound-tiled, sound-tree, sound-rest, sound-kids}
+use Rattle.live.proofs.Trees.{tree-none, tree-some}
+use Rattle.live.proofs.Lives.{kidsOf, fromOn}
 
 -- ---- a rank has a value
 

@@ -1,6 +1,6 @@
 // Access to a string or bytes value of a valid table (document 01, "Refusal numbers", 18).
-use crate::table::is_run;
-use crate::table::node;
+use nodes::is_run;
+use nodes::node;
 ghost use mathlib.Core.Path.{_≡_};
 ghost use mathlib.Core.Bool.{true};
 ghost use Rattle.definitions.specs.Validity as good;

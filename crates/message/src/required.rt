@@ -1,12 +1,14 @@
 // The required check of a valid table (document 01, "Refusal numbers", 17): it descends message by message.
-use crate::live::is_live;
-use crate::table::nests;
-use crate::table::node;
-use crate::table::rank;
-use crate::table::root_want;
-use crate::table::want;
 use definitions::Want;
-use schema::Layout;
+use definitions::kinds;
+use definitions::labels;
+use live::is_live;
+use nodes::nests;
+use nodes::node;
+use nodes::rank;
+use nodes::root_want;
+use nodes::want;
+use records::Layout;
 ghost use mathlib.Core.Path.{_≡_};
 ghost use mathlib.Core.Bool.{true};
 ghost use mathlib.Core.List.{List};
@@ -18,8 +20,8 @@ ghost use Rattle.definitions.specs.Nodes.{tiles, forest};
 ghost use Rattle.definitions.specs.Validity.{valid};
 ghost use Rattle.definitions.specs.Live as live;
 ghost use Rattle.definitions.specs.Required as spec;
-ghost use Rattle.schema.specs.Known.{Known};
-ghost use Rattle.message.specs.Span.{There, Sound};
+ghost use Rattle.records.specs.Known.{Known};
+ghost use Rattle.nodes.specs.Span.{There, Sound};
 
 // A value of that rank stands among the siblings from `from` up to `to`, whatever the pool holds.
 fn has(nodes: &[u32], wanted: usize, from: usize, to: usize) -> bool
@@ -42,15 +44,15 @@ fn filled(image: &[u8], layout: Layout, nodes: &[u32], w: Want, from: usize, to:
     requires { ⌜ Known (now image) layout × There (now image) (within w) × (tiles (now nodes) from to ≡ true) × (5 * to ≤ length (now nodes)) ⌝ }
     ensures { λ r. ⌜ ((pool : List ℕ) → r ≡ spec.filledIn (now (image .entry)) (within w) (live.treeOf pool (forest (now (nodes .entry)) from to))) ⌝ }
 {
-    if w.kind == 10 {
+    if w.kind == kinds::ENTRY {
         return true;
     }
-    let run = schema::message(image, w.reference);
+    let run = records::message(image, w.reference);
     let first = run.first;
     let mut k = 0;
     while k < run.count {
-        let field = schema::field(image, layout, first + k);
-        if field.label == 1 {
+        let field = records::field(image, layout, first + k);
+        if field.label == labels::REQUIRED {
             if !has(nodes, first + k, from, to) {
                 return false;
             }

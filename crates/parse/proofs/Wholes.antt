@@ -15,34 +15,20 @@ use Rattle.definitions.specs.Nodes.{words}
 use Rattle.definitions.specs.Loop.{Out, done, refused}
 use Rattle.definitions.specs.Reading.{rootWant, readBody, nested, whole, nodeRoom, fitted}
 use Rattle.laws.proofs.Goes.{Went, plain, readBody-goes}
-use Rattle.parse.specs.declared.Answer.{Answer}
-use Rattle.parse.specs.declared.Answer.the-variants as answer
+use Rattle.scalars.specs.declared.Answer.{Answer}
+use Rattle.scalars.specs.declared.Answer.the-variants as answer
 use Rattle.parse.specs.declared.Read.{Read}
 use Rattle.parse.specs.declared.Read.the-variants as read
-use Rattle.parse.specs.Answers.{answerOf, putAt, Fair, Fits, Answers, refusalOf}
-use Rattle.parse.specs.Whole.{readOf, fittedRead, fittedNodes, fittedPool}
-use Rattle.parse.proofs.Stores.{parent-put}
-use Rattle.parse.proofs.Returns.{answer-done, answer-no, wrote-done}
+use Rattle.scalars.specs.Answers.{answerOf, putAt, Fair, Fits, Answers}
+use Rattle.parse.specs.Whole.{readOf, fittedRead, fittedNodes, fittedPool, refusalOf}
+use Rattle.bodies.proofs.Origin.{origin}
+use Rattle.scalars.proofs.Stores.{parent-put}
+use Rattle.scalars.proofs.Returns.{answer-done, answer-no, wrote-done}
 
 -- a lent part of length 0 holds nothing
 pub empty-part : (p e : List ℕ) → length p ≡ 0 → p ++ e ≡ e
 empty-part [] e h = refl
 empty-part (x ∷ p) e h = absurd (omega arith)
-
-abbrev pub origin : Spot
-origin = record { at = 0; node = 1; byte = 0 }
-
-pub origin-fair : (s : List ℕ) → length s ≤ mostText → Fair s origin
-origin-fair s h = record { inside = omega arith; nodes = omega arith; bytes = omega arith; short = h }
-
-pub root-fits : (image : List ℕ) (root : ℕ) → root < Rattle.definitions.specs.Image.messageCount image → Fits image (rootWant root)
-root-fits image root h = record {
-  least = omega arith;
-  most = omega arith;
-  enums = λ e. absurd (omega (arith, e));
-  messages = λ e. h;
-  maps = λ e. absurd (omega (arith, e));
-}
 
 -- the answer, the table and the pool of a text
 abbrev pub Ends : (image : List ℕ) (root : ℕ) (s e f : List ℕ) → Read → List ℕ → List ℕ → Type 0

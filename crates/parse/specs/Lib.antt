@@ -1,3 +1,2 @@
--- What the readers presume and answer.
-pub mod Answers
+-- What reading a whole text answers.
 pub mod Whole

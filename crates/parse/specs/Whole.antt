@@ -6,6 +6,8 @@ use Rattle.definitions.specs.Refusals.{given, denied}
 use Rattle.definitions.specs.Refusals as refusals
 use Rattle.definitions.specs.Calls.{stored}
 use Rattle.definitions.specs.Reading.{Made, whole, fitted, wordsOf, bytesOf}
+use Rattle.scalars.specs.declared.Answer.{Answer}
+use Rattle.scalars.specs.declared.Answer.the-variants as answer
 use Rattle.parse.specs.declared.Read.{Read}
 use Rattle.parse.specs.declared.Read.the-variants as read
 
@@ -13,6 +15,11 @@ use Rattle.parse.specs.declared.Read.the-variants as read
 abbrev pub readOf : refusals.Answer Made → Read
 readOf (given m) = read.Made (m .nodes) (m .bytes)
 readOf (denied why at) = read.No why at
+
+-- a refusal, passed on
+abbrev pub refusalOf : Answer → Read
+refusalOf (answer.Done q) = read.Made (q .node) (q .byte)
+refusalOf (answer.No why at) = read.No why at
 
 unfoldable pub fittedRead : (image : List ℕ) (root : ℕ) (s : List ℕ) (count size : ℕ) → refusals.Answer Made
 fittedRead image root s count size = fitted count size (whole image root s)

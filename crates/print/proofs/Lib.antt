@@ -1,7 +1,4 @@
--- What the crate's proofs rest on.
-pub mod Texts
-pub mod ValueLaws
-pub mod FieldLaws
+-- Laws that the proofs of the functions cite.
 pub mod Canon
 pub mod OrderLaws
 pub mod BodyLaws

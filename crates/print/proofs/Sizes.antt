@@ -22,9 +22,9 @@ use Rattle.laws.proofs.Lists.{AreBytes, bytes-drop}
 use Rattle.laws.proofs.Decimal.{decimal-length}
 use Rattle.laws.proofs.Quoting.{quoteBytes-length, quoted-length}
 use Rattle.laws.proofs.Forest.{endOf, tiles-parts, forest-none, forest-some}
-use Rattle.schema.proofs.BitLaws.{bits-below}
+use Rattle.bits.proofs.BitLaws.{bits-below}
 use Rattle.print.specs.Order.{values}
-use Rattle.print.proofs.FieldLaws.{indent-count}
+use Rattle.fields.proofs.FieldLaws.{indent-count}
 
 -- ---- values
 

@@ -15,16 +15,16 @@ use Rattle.definitions.specs.Reading.{rootWant}
 use Rattle.definitions.specs.Live.{canon, meaning}
 use Rattle.definitions.specs.Print.{Style, render, printText}
 use Rattle.laws.proofs.Lists.{AreBytes}
-use Rattle.schema.specs.declared.Layout.{Layout}
-use Rattle.schema.specs.Known.{Known}
-use Rattle.message.proofs.Scopes.{within-root, there-root}
-use Rattle.message.proofs.Root.{Root, root-parts}
-use Rattle.message.proofs.Values.{valid-root}
-use Rattle.message.proofs.Sounds.{sound-valid}
-use Rattle.print.specs.Written.{Room}
+use Rattle.records.specs.declared.Layout.{Layout}
+use Rattle.records.specs.Known.{Known}
+use Rattle.nodes.proofs.Scopes.{within-root, there-root}
+use Rattle.validity.proofs.Root.{Root, root-parts}
+use Rattle.validity.proofs.Values.{valid-root}
+use Rattle.live.proofs.Sounds.{sound-valid}
+use Rattle.spelling.specs.Written.{Room}
 use Rattle.print.specs.Printed.{Printable}
 use Rattle.print.specs.Order.{values}
-use Rattle.print.proofs.Texts.{as-room}
+use Rattle.spelling.proofs.Texts.{as-room}
 use Rattle.print.proofs.Sizes.{AreWords, print-small}
 
 module _ (s pool w : List ℕ) (root : ℕ) (v : valid s root w pool ≡ true) where

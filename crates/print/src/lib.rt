@@ -2,10 +2,5 @@
 // One set of functions for both passes and both styles: each takes a lent buffer and a place and gives the place after its text.
 // A byte is stored where there is room for it, so over an empty part of the buffer the same functions only count.
 pub mod body;
-pub mod fields;
-pub mod numbers;
 pub mod order;
-pub mod put;
-pub mod strings;
 pub mod text;
-pub mod values;

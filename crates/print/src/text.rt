@@ -1,18 +1,18 @@
 // The print of a whole table.
 use crate::body::Body;
 use crate::body::print_to_internal;
-use message::table::node;
-use message::table::root_want;
-use schema::Layout;
+use nodes::node;
+use nodes::root_want;
+use records::Layout;
 ghost use mathlib.Core.Path.{_≡_};
 ghost use mathlib.Core.Bool.{true};
 ghost use Prim.Native.Nat.{_<_};
 ghost use Rattle.definitions.specs.Image.{messageCount};
 ghost use Rattle.definitions.specs.Validity.{valid};
 ghost use Rattle.definitions.specs.Print.{printText};
-ghost use Rattle.schema.specs.Known.{Known};
-ghost use Rattle.print.specs.Written.{Written};
-ghost use Rattle.print.specs.Printed.{styleOf};
+ghost use Rattle.records.specs.Known.{Known};
+ghost use Rattle.spelling.specs.Written.{Written};
+ghost use Rattle.fields.specs.Fields.{styleOf};
 
 // The length of a valid table's text, which stands in the buffer as far as there is room.
 pub fn print_text(

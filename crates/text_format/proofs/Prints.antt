@@ -9,7 +9,7 @@ use lib.Seq.{sets}
 use borrow.Author.Tests.{lt-ltb, le-ltb}
 use Rattle.definitions.specs.Refusals.{bufferShort, place}
 use Rattle.definitions.specs.Print.{Style, printText, printAnswer, printBuffer}
-use Rattle.print.specs.Written.{Written}
+use Rattle.spelling.specs.Written.{Written}
 use Rattle.text_format.specs.declared.Printed.{Printed}
 use Rattle.text_format.specs.declared.Printed.the-variants as printed
 use Rattle.text_format.specs.Answers.{tableBarred, printedOf}

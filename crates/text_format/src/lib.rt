@@ -1,6 +1,8 @@
 // The library's entry points. Any bytes may be handed in as schema, text, nodes or pool: every call ends, and answers or refuses by
 // a number of document 01. A refused call changes no byte or word that it was lent.
 use definitions::Place;
+use definitions::limits::MOST_TEXT;
+use definitions::refusals;
 use message::access::Run;
 use parse::Read;
 ghost use mathlib.Core.Path.{_≡_};
@@ -10,7 +12,7 @@ ghost use Rattle.definitions.specs.Print.{compact, pretty, printAnswer, printBu
 ghost use Rattle.definitions.specs.Required.{requiredAnswer};
 ghost use Rattle.definitions.specs.Access.{valueAnswer, valueBytes};
 ghost use Rattle.parse.specs.Whole.{readOf};
-ghost use Rattle.print.specs.Printed.{styleOf};
+ghost use Rattle.fields.specs.Fields.{styleOf};
 ghost use Rattle.text_format.specs.Answers.{barNumber, tableBarred, printedOf, checkedOf, valuedOf};
 
 // Reads a text into a node table and a pool.
@@ -26,15 +28,15 @@ pub fn read(image: &[u8], root: usize, text: &[u8], nodes: &mut [u32], pool: &mu
     ensures bytes { λ _. ⌜ now (pool .exit) ≡ readPool (now (image .entry)) root (now (text .entry)) (length (now (nodes .entry))) (now (pool .entry)) ⌝ }
 {
     if !schema::check(image) {
-        return Read::No(1, Place { offset: 0 });
+        return Read::No(refusals::BAD_SCHEMA, Place { offset: 0 });
     }
-    if schema::message_count(image) <= root {
-        return Read::No(2, Place { offset: 0 });
+    if records::message_count(image) <= root {
+        return Read::No(refusals::NO_MESSAGE, Place { offset: 0 });
     }
-    if 1048576 < text.len() {
-        return Read::No(3, Place { offset: 0 });
+    if MOST_TEXT < text.len() {
+        return Read::No(refusals::TEXT_TOO_LONG, Place { offset: 0 });
     }
-    let layout = schema::layout_of(image);
+    let layout = records::layout_of(image);
     parse::read_text(image, layout, root, text, nodes, pool)
 }
 
@@ -61,14 +63,14 @@ fn table_bar(image: &[u8], root: usize, nodes: &[u32], pool: &[u8]) -> u8
     ensures { λ r. ⌜ r ≡ barNumber (tableBarred (now (image .entry)) root (now (nodes .entry)) (now (pool .entry))) ⌝ }
 {
     if !schema::check(image) {
-        return 1;
+        return refusals::BAD_SCHEMA;
     }
-    if schema::message_count(image) <= root {
-        return 2;
+    if records::message_count(image) <= root {
+        return refusals::NO_MESSAGE;
     }
-    let layout = schema::layout_of(image);
-    if !message::valid::is_valid(image, layout, root, nodes, pool) {
-        return 15;
+    let layout = records::layout_of(image);
+    if !validity::is_valid(image, layout, root, nodes, pool) {
+        return refusals::BAD_TABLE;
     }
     0
 }
@@ -89,10 +91,10 @@ fn print_styled(
     if why != 0 {
         return Printed::No(why, Place { offset: 0 });
     }
-    let layout = schema::layout_of(image);
+    let layout = records::layout_of(image);
     let n = print::text::print_text(image, layout, pretty, root, nodes, pool, &mut buffer[..0]);
     if buffer.len() < n {
-        return Printed::No(16, Place { offset: n });
+        return Printed::No(refusals::BUFFER_SHORT, Place { offset: n });
     }
     print::text::print_text(image, layout, pretty, root, nodes, pool, buffer);
     Printed::Length(n)
@@ -134,11 +136,11 @@ pub fn check_required(image: &[u8], root: usize, nodes: &[u32], pool: &[u8]) -> 
     if why != 0 {
         return Checked::No(why, Place { offset: 0 });
     }
-    let layout = schema::layout_of(image);
+    let layout = records::layout_of(image);
     if message::required::has_required(image, layout, root, nodes, pool) {
         return Checked::Complete;
     }
-    Checked::No(17, Place { offset: 0 })
+    Checked::No(refusals::REQUIRED_MISSING, Place { offset: 0 })
 }
 
 // Whether node `index` of a table is a string or bytes value. In order: 1, 2 and 15 as for `check_required`; 18 there is no such value.
@@ -153,7 +155,7 @@ pub fn value_number(image: &[u8], root: usize, nodes: &[u32], pool: &[u8], index
     if let Run::At(_, _) = run {
         return Valued::Given;
     }
-    Valued::No(18, Place { offset: 0 })
+    Valued::No(refusals::NO_VALUE, Place { offset: 0 })
 }
 
 // The bytes of a string or bytes value, lent as a part of the pool; empty where `value_number` refuses.

@@ -2,7 +2,7 @@
 use denote.Ref.{now}
 use mathlib.Core.Path.{sym}
 use lib.Seq.{length-take-le}
-use Rattle.print.specs.Printed.{styleOf}
+use Rattle.fields.specs.Fields.{styleOf}
 use Rattle.carry.proofs.Carrying.{promised, ends-refused, ends-read, length-fits}
 use borrow.Author.Needs.{needs}
 use Rattle.carry.proofs.carry.Statement.{statement}

@@ -3,7 +3,6 @@ use denote.Ref.{now}
 use mathlib.Core.Path.{_≡_, refl, sym, _∙_}
 use native.Mathlib.Omega.{arith}
 use Rattle.parse.proofs.Wholes.{empty-part, ends-no, ends-nodes, ends-bytes, ends-made, counted-node}
-use Rattle.parse.proofs.Wholes.{empty-part, origin-fair, root-fits, ends-no, ends-nodes, ends-bytes, ends-made, counted-node}
 use borrow.Author.Needs.{needs}
 use Rattle.parse.proofs.read_text.Statement.{statement}
 use Rattle.parse.proofs.read_text.Tie as tie

@@ -4,14 +4,14 @@ use borrow.Author.Needs.{needs}
 use mathlib.Core.Path.{_≡_, refl, sym, _∙_}
 use native.Mathlib.Omega.{arith}
 use borrow.Author.Tests.{not-true, not-false}
-use Rattle.schema.proofs.Accepted.{accepted-header}
+use Rattle.records.proofs.Accepted.{accepted-header}
 use Rattle.text_format.proofs.Tables.{bar-free, bar-some, required-barred, required-complete, required-missing}
 use Rattle.text_format.proofs.check_required.Statement.{statement}
 use Rattle.text_format.proofs.check_required.Tie as tie
 use Rattle.text_format.proofs.check_required.Reads as reads
 use Rattle.text_format.proofs.check_required.Lts as lts
 use Rattle.message.proofs.required.has_required.Reads as has-required-reads
-use Rattle.schema.proofs.layout_of.Reads as layout-of-reads
+use Rattle.records.proofs.layout_of.Reads as layout-of-reads
 use Rattle.text_format.proofs.table_bar.Reads as table-bar-reads
 
 table-bar-requires : tie.Need-table-bar-requires

@@ -3,8 +3,8 @@ use denote.Ref.{now}
 use borrow.Author.Needs.{needs}
 use mathlib.Core.Path.{_≡_, refl, sym, _∙_}
 use native.Mathlib.Omega.{arith}
-use Rattle.schema.proofs.Accepted.{accepted-header}
-use Rattle.print.specs.Printed.{styleOf}
+use Rattle.records.proofs.Accepted.{accepted-header}
+use Rattle.fields.specs.Fields.{styleOf}
 use Rattle.text_format.proofs.Tables.{bar-free, bar-some}
 use Rattle.text_format.proofs.Prints.{empty-part, print-barred, print-short, print-made}
 use Rattle.text_format.proofs.print_styled.Statement.{statement}
@@ -12,7 +12,7 @@ use Rattle.text_format.proofs.print_styled.Tie as tie
 use Rattle.text_format.proofs.print_styled.Reads as reads
 use Rattle.text_format.proofs.print_styled.Lts as lts
 use Rattle.print.proofs.text.print_text.Reads as print-text-reads
-use Rattle.schema.proofs.layout_of.Reads as layout-of-reads
+use Rattle.records.proofs.layout_of.Reads as layout-of-reads
 use Rattle.text_format.proofs.table_bar.Reads as table-bar-reads
 
 table-bar-requires : tie.Need-table-bar-requires

@@ -3,7 +3,7 @@ use denote.Ref.{now}
 use mathlib.Core.Path.{_≡_, refl, sym, _∙_}
 use native.Mathlib.Omega.{arith}
 use borrow.Author.Tests.{not-true, not-false}
-use Rattle.schema.proofs.Accepted.{accepted-header}
+use Rattle.records.proofs.Accepted.{accepted-header}
 use Rattle.text_format.proofs.Ends.{ends-schema, ends-root, ends-long, ends-read}
 use borrow.Author.Needs.{needs}
 use Rattle.text_format.proofs.read.Statement.{statement}
@@ -12,8 +12,8 @@ use Rattle.text_format.proofs.read.Reads as reads
 use Rattle.text_format.proofs.read.Lts as lts
 use Rattle.parse.proofs.read_text.Reads as read-text-reads
 use Rattle.schema.proofs.check.Reads as check-reads
-use Rattle.schema.proofs.layout_of.Reads as layout-of-reads
-use Rattle.schema.proofs.message_count.Reads as message-count-reads
+use Rattle.records.proofs.layout_of.Reads as layout-of-reads
+use Rattle.records.proofs.message_count.Reads as message-count-reads
 
 check-requires : tie.Need-check-requires
 check-requires c κs = search needs

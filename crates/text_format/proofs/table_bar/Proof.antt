@@ -4,16 +4,16 @@ use borrow.Author.Needs.{needs}
 use mathlib.Core.Path.{_≡_, refl, sym, _∙_}
 use native.Mathlib.Omega.{arith}
 use borrow.Author.Tests.{not-true, not-false}
-use Rattle.schema.proofs.Accepted.{accepted-header}
+use Rattle.records.proofs.Accepted.{accepted-header}
 use Rattle.text_format.proofs.Tables.{bar-schema, bar-root, bar-table, bar-nothing}
 use Rattle.text_format.proofs.table_bar.Statement.{statement}
 use Rattle.text_format.proofs.table_bar.Tie as tie
 use Rattle.text_format.proofs.table_bar.Reads as reads
 use Rattle.text_format.proofs.table_bar.Lts as lts
-use Rattle.message.proofs.valid.is_valid.Reads as is-valid-reads
+use Rattle.validity.proofs.is_valid.Reads as is-valid-reads
 use Rattle.schema.proofs.check.Reads as check-reads
-use Rattle.schema.proofs.layout_of.Reads as layout-of-reads
-use Rattle.schema.proofs.message_count.Reads as message-count-reads
+use Rattle.records.proofs.layout_of.Reads as layout-of-reads
+use Rattle.records.proofs.message_count.Reads as message-count-reads
 
 check-requires : tie.Need-check-requires
 check-requires c κs = search needs

@@ -4,8 +4,8 @@ use borrow.Author.Needs.{needs}
 use mathlib.Core.Path.{_≡_, refl, sym, _∙_}
 use native.Mathlib.Omega.{arith}
 use borrow.Author.Tests.{not-true, not-false}
-use Rattle.schema.proofs.Accepted.{accepted-header}
-use Rattle.message.proofs.Values.{valid-lendable}
+use Rattle.records.proofs.Accepted.{accepted-header}
+use Rattle.message.proofs.Lending.{valid-lendable}
 use Rattle.text_format.proofs.Tables.{bar-free, bar-some, bytes-barred, bytes-lent}
 use Rattle.text_format.proofs.value_bytes.Statement.{statement}
 use Rattle.text_format.proofs.value_bytes.Tie as tie

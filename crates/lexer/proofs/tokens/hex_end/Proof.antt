@@ -6,7 +6,7 @@ use lib.ListN.{length, drop}
 use borrow.Author.Needs.{needs}
 use borrow.Author.Tests.{not-true, not-false}
 use Rattle.definitions.specs.Integers.{front, hexDigit}
-use Rattle.lexer.proofs.Laws.{front-on, front-stop, front-end}
+use Rattle.laws.proofs.Tests.{front-on, front-stop, front-end}
 use Rattle.lexer.proofs.tokens.hex_end.Statement.{statement}
 use Rattle.lexer.proofs.tokens.hex_end.Tie as tie
 

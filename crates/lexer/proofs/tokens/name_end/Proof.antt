@@ -7,7 +7,7 @@ use lib.ListN.{length, drop}
 use borrow.Author.Tests.{le-leb, lt-leb}
 use Rattle.definitions.specs.Classes.{goesOn}
 use Rattle.definitions.specs.Integers.{front}
-use Rattle.lexer.proofs.Laws.{front-on, front-stop, front-end}
+use Rattle.laws.proofs.Tests.{front-on, front-stop, front-end}
 use Rattle.lexer.proofs.tokens.name_end.Statement.{statement}
 use Rattle.lexer.proofs.tokens.name_end.Tie as tie
 

@@ -1,7 +1,7 @@
--- `access::value_bytes` meets its contract: a part of the pool, or none of it.
+-- `message::access::value_bytes` meets its contract: a part of the pool, or none of it.
 use native.Mathlib.Omega.{arith}
 use mathlib.Core.Path.{sym, _∙_}
-use Rattle.message.proofs.Values.{lent-none, lent-part, lent-inside}
+use Rattle.message.proofs.Lending.{lent-none, lent-part, lent-inside}
 use borrow.Author.Needs.{needs}
 use Rattle.message.proofs.access.value_bytes.Statement.{statement}
 use Rattle.message.proofs.access.value_bytes.Tie as tie

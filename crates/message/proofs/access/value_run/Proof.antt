@@ -1,8 +1,8 @@
--- `access::value_run` meets its contract.
+-- `message::access::value_run` meets its contract.
 use native.Mathlib.Omega.{arith}
 use mathlib.Core.Path.{sym, _∙_}
-use Rattle.message.proofs.Root.{root-parts, root-end}
-use Rattle.message.proofs.Values.{value-past, value-at, value-other}
+use Rattle.validity.proofs.Root.{root-parts, root-end}
+use Rattle.message.proofs.Lending.{value-past, value-at, value-other}
 use borrow.Author.Needs.{needs}
 use Rattle.message.proofs.access.value_run.Statement.{statement}
 use Rattle.message.proofs.access.value_run.Tie as tie

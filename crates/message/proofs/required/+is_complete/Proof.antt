@@ -12,11 +12,11 @@ use borrow.Fn.PlainCycle.{Measures, is, falls, and}
 use Rattle.message.proofs.required.is_complete.Reads as is-complete
 use Rattle.message.proofs.required.is_complete.Kinds as is-complete-kinds
 use Rattle.message.proofs.required.+is_complete.Lts-is_complete as is-complete-lts
-use Rattle.message.proofs.live.is_live.Reads as is-live-reads
+use Rattle.live.proofs.is_live.Reads as is-live-reads
 use Rattle.message.proofs.required.filled.Reads as filled-reads
-use Rattle.message.proofs.table.nests.Reads as nests-reads
-use Rattle.message.proofs.table.node.Reads as node-reads
-use Rattle.message.proofs.table.want.Reads as want-reads
+use Rattle.nodes.proofs.nests.Reads as nests-reads
+use Rattle.nodes.proofs.node.Reads as node-reads
+use Rattle.nodes.proofs.want.Reads as want-reads
 use Rattle.message.proofs.required.+is_complete.{statement}
 use Rattle.message.proofs.required.+is_complete.Tie.{close}
 

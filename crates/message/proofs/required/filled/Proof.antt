@@ -1,4 +1,4 @@
--- `required::filled` meets its contract. The invariant: each of the message's fields so far is not required, or has a value.
+-- `message::required::filled` meets its contract. The invariant: each of the message's fields so far is not required, or has a value.
 use native.Mathlib.Omega.{arith}
 use Prim.Native.Nat.{ℕ, _-_, _≤_}
 use mathlib.Core.Bool.{true}
@@ -8,10 +8,10 @@ use mathlib.Core.Path.{_≡_, refl, sym, _∙_}
 use borrow.Author.Needs.{needs}
 use borrow.Author.Tests.{not-true, not-false}
 use Rattle.definitions.specs.Basics.{all}
-use Rattle.schema.proofs.Accepted.{known-placed, accepted-header}
-use Rattle.schema.proofs.Room.{fieldCount-lt}
-use Rattle.message.proofs.Scopes.{there-message}
-use Rattle.message.proofs.Lives.{fromOn}
+use Rattle.records.proofs.Accepted.{known-placed, accepted-header}
+use Rattle.records.proofs.Room.{fieldCount-lt}
+use Rattle.nodes.proofs.Scopes.{there-message}
+use Rattle.live.proofs.Lives.{fromOn}
 use Rattle.message.proofs.Requires.{given, all-more, filled-entry, filled-done, filled-not, given-other, given-has, run-field}
 use Rattle.message.proofs.required.filled.Statement.{statement}
 use Rattle.message.proofs.required.filled.Tie as tie

@@ -1,4 +1,4 @@
--- `required::has` meets its contract. The invariant: the rank has a value from the sibling that the walk has come to on, if it has one at all.
+-- `message::required::has` meets its contract. The invariant: the rank has a value from the sibling that the walk has come to on, if it has one at all.
 use native.Mathlib.Omega.{arith}
 use Prim.Native.Nat.{_-_}
 use mathlib.Core.Path.{sym, _∙_}

@@ -1,11 +1,11 @@
--- `required::has_required` meets its contract: all that lies below the root of a valid table.
+-- `message::required::has_required` meets its contract: all that lies below the root of a valid table.
 use native.Mathlib.Omega.{arith}
 use mathlib.Core.Path.{ap, _∙_}
 use Rattle.definitions.specs.Scope.{within}
-use Rattle.message.proofs.Scopes.{within-root, there-root}
-use Rattle.message.proofs.Root.{root-parts, root-end}
-use Rattle.message.proofs.Values.{valid-root}
-use Rattle.message.proofs.Sounds.{sound-valid}
+use Rattle.nodes.proofs.Scopes.{within-root, there-root}
+use Rattle.validity.proofs.Root.{root-parts, root-end}
+use Rattle.validity.proofs.Values.{valid-root}
+use Rattle.live.proofs.Sounds.{sound-valid}
 use Rattle.message.proofs.Requires.{meaning-below}
 use borrow.Author.Needs.{needs}
 use Rattle.message.proofs.required.has_required.Statement.{statement}

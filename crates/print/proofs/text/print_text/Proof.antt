@@ -1,6 +1,6 @@
 -- `print::text::print_text` meets its contract.
 use borrow.Author.Needs.{needs}
-use Rattle.print.proofs.Texts.{as-written}
+use Rattle.spelling.proofs.Texts.{as-written}
 use Rattle.print.proofs.Whole.{whole-room, whole-text, whole-printable, whole-fits}
 use Rattle.print.proofs.text.print_text.Statement.{statement}
 use Rattle.print.proofs.text.print_text.Tie as tie

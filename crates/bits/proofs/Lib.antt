@@ -1,0 +1,2 @@
+-- Laws of bit fields, which the proofs here and the crates above cite.
+pub mod BitLaws

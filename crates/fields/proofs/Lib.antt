@@ -1,0 +1,2 @@
+-- Laws that the proofs here and the crates above cite.
+pub mod FieldLaws

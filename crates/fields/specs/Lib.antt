@@ -1,0 +1,2 @@
+-- What is known of a field that is printed.
+pub mod Fields

@@ -1,0 +1,6 @@
+-- Why what is read is valid: a reading lays a tree down (Laid), every value that it reads is right for its kind (Leaves), bodies have
+-- the fields of their scope and entries a key and a value (Bodies); so the table that it leaves is valid (ReadValid.read-valid).
+pub mod Laid
+pub mod Leaves
+pub mod Bodies
+pub mod ReadValid

@@ -1,0 +1,2 @@
+-- What the readers presume and answer.
+pub mod Answers

@@ -1,0 +1,85 @@
+// Values that are names: bool and enum.
+use crate::Answer;
+use crate::bad;
+use crate::store::put_number;
+use definitions::Spot;
+use definitions::Want;
+use definitions::refusals;
+use definitions::tokens;
+use lexer::Cursor;
+use lexer::Step;
+use records::Found;
+use records::Layout;
+ghost use mathlib.Core.Path.{_≡_};
+ghost use mathlib.Core.Bool.{true};
+ghost use Prim.Native.Nat.{_<_, _+_};
+ghost use Rattle.definitions.specs.Nodes.{widen};
+ghost use Rattle.definitions.specs.Reading.{boolValue, enumValue};
+ghost use Rattle.records.specs.Known.{Known};
+ghost use Rattle.scalars.specs.Answers.{Fair, Ready, Fits, Holds, AnswersHere};
+
+// bool: `true` or `false`.
+pub(crate) fn read_bool(s: &[u8], table: &[u8; 256], w: Want, q: Spot, nodes: &mut [u32]) -> Answer
+    requires { ⌜ Ready (now table) × Fair (now s) q × Holds w q ⌝ }
+    ensures { λ r. ⌜ AnswersHere (now (nodes .entry)) (now (nodes .exit)) q (boolValue (now (s .entry)) w q) r ⌝ }
+{
+    let st = Cursor::next_from(q, s, table);
+    let Step::Token(t, after) = st else {
+        return bad(st);
+    };
+    let place = t.start;
+    if t.kind != tokens::NAME {
+        return Answer::No(refusals::NOT_BOOL, place);
+    }
+    let from = place.offset;
+    let to = after.at;
+    if records::same(b"true", &s[from..to]) {
+        return put_number(w, q, to, 1, nodes);
+    }
+    if records::same(b"false", &s[from..to]) {
+        return put_number(w, q, to, 0, nodes);
+    }
+    Answer::No(refusals::NOT_BOOL, place)
+}
+
+// 32 bits sign-extended to 64.
+pub fn widened(v: u32) -> u64
+    ensures { λ r. ⌜ r ≡ widen v ⌝ }
+{
+    if v < 2147483648 {
+        v as u64
+    } else {
+        v as u64 + 18446744069414584320
+    }
+}
+
+// An enum: the name of one of its values.
+pub(crate) fn read_enum(
+    s: &[u8],
+    image: &[u8],
+    layout: Layout,
+    table: &[u8; 256],
+    w: Want,
+    q: Spot,
+    nodes: &mut [u32],
+) -> Answer
+    requires { ⌜ Ready (now table) × Known (now image) layout × Fair (now s) q × Holds w q × Fits (now image) w × (w .kind ≡ 8) ⌝ }
+    ensures { λ r. ⌜ AnswersHere (now (nodes .entry)) (now (nodes .exit)) q (enumValue (now (image .entry)) (now (s .entry)) w q) r ⌝ }
+{
+    let st = Cursor::next_from(q, s, table);
+    let Step::Token(t, after) = st else {
+        return bad(st);
+    };
+    let place = t.start;
+    if t.kind != tokens::NAME {
+        return Answer::No(refusals::OTHER_EXPECTED, place);
+    }
+    let from = place.offset;
+    let to = after.at;
+    let Found::At(i) = lookup::find_member(image, layout, w.reference, &s[from..to]) else {
+        return Answer::No(refusals::UNKNOWN_VALUE, place);
+    };
+    let m = records::member(image, layout, i);
+    let v = widened(m.number);
+    put_number(w, q, to, v, nodes)
+}

@@ -1,0 +1,81 @@
+// string and bytes.
+use crate::Answer;
+use crate::bad;
+use crate::store::put;
+use definitions::Node;
+use definitions::Spot;
+use definitions::Want;
+use definitions::kinds;
+use definitions::refusals;
+use definitions::tokens;
+use lexer::Cursor;
+use lexer::Step;
+use strings::Decoded;
+ghost use mathlib.Core.Path.{_≡_};
+ghost use mathlib.Core.Bool.{_&&_, not};
+ghost use lib.Dec.{eqb};
+ghost use Rattle.definitions.specs.Scope.{string};
+ghost use Rattle.definitions.specs.Reading.{stringValue};
+ghost use Rattle.scalars.specs.Answers.{Fair, Lent, Holds, Answers};
+
+// A string that is not UTF-8; bytes may be anything.
+fn is_broken(kind: u8, utf8: bool) -> bool
+    ensures { λ r. ⌜ r ≡ (eqb kind string && not utf8) ⌝ }
+{
+    if kind != kinds::STRING {
+        return false;
+    }
+    if utf8 {
+        return false;
+    }
+    true
+}
+
+// string, bytes: a string, its escapes decoded into the pool.
+pub(crate) fn read_string(
+    s: &[u8],
+    table: &[u8; 256],
+    escape: &[u8; 22],
+    w: Want,
+    q: Spot,
+    nodes: &mut [u32],
+    pool: &mut [u8],
+) -> Answer
+    requires { ⌜ Lent (now table) (now escape) × Fair (now s) q × Holds w q ⌝ }
+    ensures { λ r. ⌜ Answers (now (nodes .entry)) (now (nodes .exit)) (now (pool .entry)) (now (pool .exit)) q (stringValue (now (s .entry)) w q) r ⌝ }
+{
+    let st = Cursor::next_from(q, s, table);
+    let Step::Token(t, after) = st else {
+        return bad(st);
+    };
+    let place = t.start;
+    if t.kind != tokens::STRING {
+        return Answer::No(refusals::OTHER_EXPECTED, place);
+    }
+    let from = place.offset + 1;
+    let to = after.at - 1;
+    let p = q.byte;
+    let Decoded::Bytes(count, utf8) = strings::decode(&s[from..to], escape, pool, p) else {
+        return Answer::No(refusals::BAD_STRING, place);
+    };
+    if is_broken(w.kind, utf8) {
+        return Answer::No(refusals::BAD_STRING, place);
+    }
+    let k = q.node;
+    put(
+        nodes,
+        k,
+        Node {
+            kind: w.kind as u32,
+            field: w.field as u32,
+            high: p as u32,
+            low: count as u32,
+            end: (k + 1) as u32,
+        },
+    );
+    Answer::Done(Spot {
+        at: after.at,
+        node: k + 1,
+        byte: p + count,
+    })
+}

@@ -1,0 +1,2 @@
+-- What is written to the lent buffer.
+pub mod Written

@@ -1,0 +1,2 @@
+-- What the answers are, beside the definitions of the crate `definitions`.
+pub mod Values

@@ -1,0 +1,16 @@
+-- `text_format::print` meets its contract: it is that of both prints, in its style.
+use borrow.Author.Needs.{needs}
+use Rattle.text_format.proofs.print.Statement.{statement}
+use Rattle.text_format.proofs.print.Tie as tie
+
+print-styled-requires : tie.Need-print-styled-requires
+print-styled-requires c κs = search needs
+
+same-length : tie.Need-same-length
+same-length c = search needs
+
+returns : tie.Need-returns
+returns c = search needs
+
+pub print-spec : {M : Type 1} → statement M
+print-spec = tie.close (tie.spec print-styled-requires same-length returns)
