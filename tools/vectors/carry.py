@@ -159,7 +159,8 @@ def refused_reads(out, carrier):
     for newer, older, root, table, told, shown in [
             (x, one, 0, i_of_x, 'read 6 0', 'i: 5'), (one, x, 0, q_of_one, 'read 6 0', 'q: 5'),
             (x, one, 1, q_of_x, 'read 2 0', 'q: 5'), (x, one, 2, ROOT, 'read 2 0', ''), (x, b'', 1, q_of_x, 'read 1 0', 'q: 5'),
-            (one, x, 1, ROOT, 'print 2 0', ''), (x, one, 3, ROOT, 'print 2 0', ''), (one, x, 3, ROOT, 'print 2 0', ''), (one, one, 1, ROOT, 'print 2 0', '')]:
+            (one, x, 1, ROOT, 'print 2 0', ''), (x, one, 3, ROOT, 'print 2 0', ''), (one, x, 3, ROOT, 'print 2 0', ''),
+            (one, one, 1, ROOT, 'print 2 0', '')]:
         out.schema(newer)
         out.older(older)
         out.root(root)

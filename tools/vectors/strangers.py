@@ -18,7 +18,7 @@ F1 = field('f', ENUM, 4, reference=1)
 MAP_A = field('a', I32, label=MAP, key_type=I32)
 PART_KEY, PART_VALUE = field('key', I32), field('value', I32, 2)
 
-# What is said of the pair, newer, older, and cases: text, marked print, number (0: read), and the nodes of defaults if there are any.
+# What is said of the pair, newer, older, and cases: text, marked print, number (0: read), and the nodes of defaults, if any.
 PAIRS = [
     ('Extends: fields before, between and after, required ones too; messages and enums at the end',
      Image([[field('x', U32, 9), A, field('y', U32, 8, REQUIRED), B, field('z', BOOL, 7)], [A]], [[('ON', 1)]]), single(A, B),
