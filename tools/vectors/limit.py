@@ -1,8 +1,33 @@
-"""limit.txt: texts at the limit of refusal 3 and one byte over it. wide.txt: as many nodes as a table may have."""
+"""limit.txt: texts at the limit of refusal 3 and one byte over it, read and printed. wide.txt: as many nodes as there may be."""
 from images import *
-from lines import Requests
+from lines import Requests, hexed
 
 LIMIT = 1048576
+
+
+def repeated():
+    """The first fields of X, with `y` repeated."""
+    return Image([X_FIELDS[:6] + [('y', 7, REPEATED, 0, BYTES, 0)]])
+
+
+def table(lengths, first=()):
+    """The words of a root with a node before, if one is given, and a `y` of each length at the start of the pool."""
+    words = [MESSAGE, 0, 0, 0, len(lengths) + 1 + bool(first), *first]
+    for length in lengths:
+        words += [BYTES, X['y'], 0, length, len(words) // 5 + 1]
+    return words
+
+
+# A zero byte prints as four letters, so few pool bytes make a text at the limit, with `i: 1` in front, and one a byte longer.
+AT_LIMIT = [4096] * 63 + [3999]
+OVER_LIMIT = [4032] * 64 + [3999]
+
+
+def carried(out, lengths, first, shown, told):
+    """A print of this length, carried to the same schema, in a buffer that it fills."""
+    text = ' '.join(shown + ['y: "' + '\\000' * length + '"' for length in lengths])
+    out.table(table(lengths, first), bytes(max(lengths)))
+    out.carry(0, len(text), 400, sum(lengths), f'X {told} {hexed(text)} kept')
 
 
 def texts():
@@ -14,15 +39,11 @@ def texts():
     out.compact('i: 1 l: 2')
     out.text('(' * (LIMIT + 1), '3 0')
     out.compact('i: 1 l: 2')
+    out.rule('A print of 1,048,577 bytes, which the read refuses 3')
+    out.schema(repeated().bytes())
+    out.older(repeated().bytes())
+    carried(out, OVER_LIMIT, (), [], 'read 3 0')
     return out
-
-
-def leaves(count, run):
-    """A root and this many bytes nodes on one run of the pool."""
-    words = [MESSAGE, 0, 0, 0, count + 1]
-    for index in range(1, count + 1):
-        words += [BYTES, X['y'], 0, run, index + 1]
-    return words
 
 
 def wide():
@@ -36,18 +57,20 @@ def wide():
     out.text(text + "s:''", '13 65535', 327674)
     out.text(text + "s:''s:''", '13 65536', 400000)
     out.rule('A table of 65,535 nodes is valid, one of 65,536 is not')
-    repeated = Image([X_FIELDS[:6] + [('y', 7, REPEATED, 0, BYTES, 0)]])
-    out.schema(repeated.bytes())
+    out.schema(repeated().bytes())
     # Four printed bytes for each zero byte, so the length of print passes 32 bits.
     run = 16385
-    out.table(leaves(65534, run), bytes(run))
+    out.table(table([run] * 65534), bytes(run))
     length = 65534 * (len('y: ""') + 4 * run) + 65533
     out.compact((16, length), 0)
     out.required(0)
     out.access(65534, bytes(run))
     out.access(65535, 18)
-    out.table(leaves(65535, run), bytes(run))
+    out.table(table([run] * 65535), bytes(run))
     out.compact((15, 0))
     out.required(15)
     out.access(1, 15)
+    out.rule('A print of 1,048,576 bytes, which is read')
+    out.older(repeated().bytes())
+    carried(out, AT_LIMIT, [I32, X['i'], 0, 1, 2], ['i: 1'], '0 0 66 262047 * *')
     return out

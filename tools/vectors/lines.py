@@ -1,7 +1,7 @@
 """Request files: lines of the line protocol, and what is known beforehand of their answers.
 
 What is known is written down by hand or computed here, apart from the model, and compared with the model's answers when
-those are made.
+those are made. It is the first words of an answer; `*` stands for a word that isn't known.
 """
 
 
@@ -36,6 +36,9 @@ class Requests:
 
     def schema(self, image):
         self.set('S', hexed(image))
+
+    def older(self, image):
+        self.set('O', hexed(image))
 
     def root(self, index):
         self.set('R', str(index))
@@ -82,6 +85,10 @@ class Requests:
         elif known is not None:
             told = f'A 0 0 {hexed(known)}'
         self.ask(f'A {node}', told)
+
+    def carry(self, style, room, words, size, known=None):
+        """A carry: style 0 compact or 1 pretty, bytes of the buffer, words and bytes lent. Known: the answer."""
+        self.ask(f'X {style} {room} {words} {size}', known)
 
     def whole(self):
         return '\n'.join(self.lines) + '\n'

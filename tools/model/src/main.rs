@@ -1,6 +1,7 @@
 //! A model of document 01, read plainly: requests of the line protocol on standard input,
 //! answers on standard output.
 
+mod carry;
 mod lexer;
 mod live;
 mod parse;

@@ -1,6 +1,7 @@
 //! The line protocol: a request to a line, an answer to a line for each request that answers.
 
-use crate::parse::read;
+use crate::carry::{carry, Carried, Load, Rooms};
+use crate::parse::{read, Reading};
 use crate::print::{print, Style};
 use crate::refusal::Refusal;
 use crate::required::required;
@@ -12,10 +13,17 @@ use std::fmt::Write;
 /// call must leave alone it leaves alone, and this is the one right word.
 const KEPT: &str = "kept";
 
+/// What every lent byte holds beforehand.
+const LENT: u8 = 0xa5;
+
+/// The longest buffer that is printed into: the answer to `X` holds all of it.
+const LONGEST_BUFFER: u64 = 2_621_504;
+
 /// What requests leave for later ones. All starts empty, root 0; the empty image is a bad schema.
 #[derive(Default)]
 pub struct State {
     schema: Option<Schema>,
+    older: Option<Schema>,
     root: u64,
     words: Vec<u32>,
     pool: Vec<u8>,
@@ -24,6 +32,7 @@ pub struct State {
 /// A line taken apart.
 enum Request {
     Schema(Vec<u8>),
+    Older(Vec<u8>),
     Root(u64),
     Nodes(Vec<u32>),
     Pool(Vec<u8>),
@@ -31,6 +40,7 @@ enum Request {
     Print(Style, u64),
     Required,
     Access(u64),
+    Carry(Style, Rooms),
 }
 
 impl State {
@@ -49,11 +59,13 @@ impl State {
     fn run(&mut self, request: Request) -> Option<String> {
         match request {
             Request::Schema(image) => self.schema = accept(&image),
+            Request::Older(image) => self.older = accept(&image),
             Request::Root(root) => self.root = root,
             Request::Nodes(words) => self.words = words,
             Request::Pool(pool) => self.pool = pool,
             Request::Text(words, bytes, text) => return Some(self.text(words, bytes, &text)),
             Request::Print(style, room) => return Some(self.print(style, room)),
+            Request::Carry(style, rooms) => return Some(self.carry(style, rooms)),
             Request::Required => {
                 let done = required(&self.schema, self.root, &self.words, &self.pool);
                 return Some(match done {
@@ -77,11 +89,10 @@ impl State {
         match read(&self.schema, self.root, text, words, bytes) {
             Err(refusal) => format!("{} {KEPT}", refused("T", refusal)),
             Ok(reading) => {
-                self.words = reading.nodes.iter().flat_map(|n| n.words()).collect();
+                let answer = format!("T {} {KEPT}", made(&reading));
+                self.words = words_of(&reading);
                 self.pool = reading.pool;
-                let (nodes, bytes) = (reading.nodes.len(), self.pool.len());
-                let (words, pool) = (hex_words(&self.words), hex(&self.pool));
-                format!("T 0 0 {nodes} {bytes} {words} {pool} {KEPT}")
+                answer
             }
         }
     }
@@ -103,6 +114,38 @@ impl State {
             Ok(text) => format!("{letter} 0 0 {} {} {KEPT}", text.len(), hex(&text)),
         }
     }
+
+    /// From the newer schema, that of `S`, to the older one; the state stays as it is.
+    fn carry(&self, style: Style, rooms: Rooms) -> String {
+        let load = Load {
+            words: &self.words,
+            pool: &self.pool,
+        };
+        let done = carry(&self.schema, &self.older, self.root, load, style, rooms);
+        let (told, text) = match done {
+            Carried::NotPrinted(refusal) => (refused("X print", refusal), Vec::new()),
+            Carried::NotRead(refusal, text) => (refused("X read", refusal), text),
+            Carried::Made(reading, text) => (format!("X {}", made(&reading)), text),
+        };
+        format!("{told} {} {KEPT}", hex(&buffer(text, rooms.text)))
+    }
+}
+
+/// The whole buffer: the text, and then what was there.
+fn buffer(mut text: Vec<u8>, room: u64) -> Vec<u8> {
+    text.resize(room as usize, LENT);
+    text
+}
+
+/// What a read that succeeds answers, without its letter and KEPT.
+fn made(reading: &Reading) -> String {
+    let (nodes, bytes) = (reading.nodes.len(), reading.pool.len());
+    let (words, pool) = (hex_words(&words_of(reading)), hex(&reading.pool));
+    format!("0 0 {nodes} {bytes} {words} {pool}")
+}
+
+fn words_of(reading: &Reading) -> Vec<u32> {
+    reading.nodes.iter().flat_map(|n| n.words()).collect()
 }
 
 fn refused(letter: &str, refusal: Refusal) -> String {
@@ -114,6 +157,7 @@ fn request(line: &[u8]) -> Option<Request> {
     let parts: Vec<&[u8]> = line.split(|&b| b == b' ').collect();
     Some(match parts[..] {
         [b"S", image] => Request::Schema(from_hex(image)?),
+        [b"O", image] => Request::Older(from_hex(image)?),
         [b"R", root] => Request::Root(decimal(root)?),
         [b"N", words] => Request::Nodes(from_hex_words(words)?),
         [b"P", pool] => Request::Pool(from_hex(pool)?),
@@ -124,8 +168,25 @@ fn request(line: &[u8]) -> Option<Request> {
         [b"Y", room] => Request::Print(Style::Pretty, decimal(room)?),
         [b"Q"] => Request::Required,
         [b"A", node] => Request::Access(decimal(node)?),
+        [b"X", style, room, words, bytes] => Request::Carry(
+            style_of(decimal(style)?)?,
+            Rooms {
+                text: decimal(room).filter(|&room| room <= LONGEST_BUFFER)?,
+                words: decimal(words)?,
+                bytes: decimal(bytes)?,
+            },
+        ),
         _ => return None,
     })
+}
+
+/// 0 is compact, 1 is pretty; there is no other style.
+fn style_of(number: u64) -> Option<Style> {
+    match number {
+        0 => Some(Style::Compact),
+        1 => Some(Style::Pretty),
+        _ => None,
+    }
 }
 
 /// One or more decimal digits of a value within 64 bits.

@@ -1,5 +1,6 @@
 //! Runs of the model on the examples of document 01 and the inputs of its readings.
 
+mod carrying;
 mod examples;
 mod helpers;
 mod protocol_lines;

@@ -60,6 +60,42 @@ fn a_read_is_the_state_after_it() {
 }
 
 #[test]
+fn a_carry_answers_the_whole_buffer_and_leaves_the_state() {
+    let image = image_line();
+    let older = image.replace('S', "O");
+    let all = answers(&[
+        "X 0 2 9 9",
+        &image,
+        "T 20 9 6e616d653a276127",
+        "X 0 9 9 9",
+        &older,
+        "X 0 8 10 1",
+        "X 1 11 9 1",
+        "X 1 11 10 0",
+        "X 1 11 10 1",
+        "C 9",
+    ]);
+    let text = "6e616d653a20226122";
+    let table = format!(
+        "{}{}",
+        "0000000900000000000000000000000000000002", "0000000600000001000000000000000100000002"
+    );
+    assert_eq!(
+        all,
+        [
+            "X print 1 0 a5a5 kept".to_string(),
+            format!("T 0 0 2 1 {table} 61 kept"),
+            format!("X read 1 0 {text} kept"),
+            "X print 16 9 a5a5a5a5a5a5a5a5 kept".to_string(),
+            format!("X read 13 2 {text}0aa5 kept"),
+            format!("X read 14 1 {text}0aa5 kept"),
+            format!("X 0 0 2 1 {table} 61 {text}0aa5 kept"),
+            format!("C 0 0 9 {text} kept"),
+        ]
+    );
+}
+
+#[test]
 fn lines_that_are_no_request() {
     for line in [
         "s -",
@@ -83,6 +119,13 @@ fn lines_that_are_no_request() {
         "A",
         "A 18446744073709551616",
         "X",
+        "X 0 1 1",
+        "X 2 1 1 1",
+        "X 0 1 1 1 1",
+        "X - 1 1 1",
+        "X 0 2621505 0 0",
+        "O",
+        "O 0",
         "é",
         "Q\r",
     ] {
