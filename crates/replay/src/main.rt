@@ -1,16 +1,5 @@
 // Answers requests of the line protocol on standard input, one line each, on standard output.
-mod asking;
-mod hex;
-mod line;
-mod number;
-mod out;
-mod reading;
-mod request;
 mod rooms;
-mod session;
-mod setting;
-mod state;
-mod text;
 
 // Each room is made and lent by a function of its own, since a proof that holds several large arrays costs too much.
 fn main() {

@@ -1,0 +1,77 @@
+-- `session::reading::read_hex` keeps the state within its rooms. Assumes nothing.
+use borrow.Author.Needs.{needs}
+use mathlib.Core.Path.{sym}
+use native.Mathlib.Omega.{arith}
+use lib.Seq.{length-take-le}
+use Rattle.session.proofs.Within.{within}
+use Rattle.session.proofs.reading.read_hex.Statement.{statement}
+use Rattle.session.proofs.reading.read_hex.Tie as tie
+
+decode-requires : tie.Need-decode-requires
+decode-requires c κs = search needs
+
+enum-known-n : tie.Need-enum-known-n
+enum-known-n c = search needs
+
+enum-told : tie.Need-enum-told
+enum-told c = search needs
+
+none-requires : tie.Need-none-requires
+none-requires c κs = search needs
+
+same-length : tie.Need-same-length
+same-length c = search needs
+
+returns : tie.Need-returns
+returns c = search needs
+
+slice-reshare-prefix-read-text : tie.Need-slice-reshare-prefix-read-text
+slice-reshare-prefix-read-text c = omega (arith, within _ _ _ (c .before .before .n .given .1) (c .before .before .before .before .before .before .decode .ensures))
+
+slice-aggregate-read-text : tie.Need-slice-aggregate-read-text
+slice-aggregate-read-text c = sym (length-take-le _ _ (omega (arith, within _ _ _ (c .before .before .before .n .given .1) (c .before .before .before .before .before .before .before .decode .ensures))))
+
+read-text-requires : tie.Need-read-text-requires
+read-text-requires c κs = search needs
+
+same-length-2 : tie.Need-same-length-2
+same-length-2 c = search needs
+
+same-length-3 : tie.Need-same-length-3
+same-length-3 c = search needs
+
+same-length-4 : tie.Need-same-length-4
+same-length-4 c = search needs
+
+same-length-5 : tie.Need-same-length-5
+same-length-5 c = search needs
+
+same-length-6 : tie.Need-same-length-6
+same-length-6 c = search needs
+
+same-length-7 : tie.Need-same-length-7
+same-length-7 c = search needs
+
+returns-2 : tie.Need-returns-2
+returns-2 c = search needs
+
+pub read-hex-spec : {M : Type 1} → statement M
+read-hex-spec =
+    tie.close
+    (tie.spec
+    decode-requires
+    enum-known-n
+    enum-told
+    none-requires
+    same-length
+    returns
+    slice-reshare-prefix-read-text
+    slice-aggregate-read-text
+    read-text-requires
+    same-length-2
+    same-length-3
+    same-length-4
+    same-length-5
+    same-length-6
+    same-length-7
+    returns-2)

@@ -1,0 +1,120 @@
+// The request T: a text is read into rooms of the asked sizes.
+use crate::line;
+use crate::out;
+use parse::Read;
+ghost use Prim.Native.Nat.{_≤_};
+ghost use lib.ListN.{length};
+
+// What every word and byte of a room holds before a call.
+const WORD: u32 = 0xa5a5a5a5;
+
+const BYTE: u8 = 0xa5;
+
+pub(crate) fn fill_words(s: &mut [u32]) {
+    let mut i = 0;
+    while i < s.len() {
+        s[i] = WORD;
+        i += 1;
+    }
+}
+
+pub(crate) fn fill_bytes(s: &mut [u8]) {
+    let mut i = 0;
+    while i < s.len() {
+        s[i] = BYTE;
+        i += 1;
+    }
+}
+
+// Whether each word from `from` on still is what it was filled with.
+fn kept_words(s: &[u32], from: usize) -> bool {
+    let mut i = from;
+    while i < s.len() {
+        if s[i] != WORD {
+            return false;
+        }
+        i += 1;
+    }
+    true
+}
+
+pub(crate) fn kept_bytes(s: &[u8], from: usize) -> bool {
+    let mut i = from;
+    while i < s.len() {
+        if s[i] != BYTE {
+            return false;
+        }
+        i += 1;
+    }
+    true
+}
+
+fn kept(nodes: &[u32], words: usize, pool: &[u8], bytes: usize) -> bool {
+    if kept_words(nodes, words) {
+        return kept_bytes(pool, bytes);
+    }
+    false
+}
+
+// What a read came to: how much of the buffer is to be written, and where a table was made, its words and its pool's bytes.
+pub(crate) struct Outcome {
+    pub(crate) is_made: bool,
+    pub(crate) at: usize,
+    pub(crate) words: usize,
+    pub(crate) bytes: usize,
+}
+
+// `T 0 0 NODES POOLBYTES WORDSHEX POOLHEX KEPT`. Where a count went over its room, what is there is told.
+fn made(buf: &mut [u8], nodes: &[u32], pool: &[u8], count: usize, used: usize) -> Outcome
+    ensures { λ r. ⌜ (r .words ≤ length (now (nodes .entry))) × (r .bytes ≤ length (now (pool .entry))) ⌝ }
+{
+    let words = line::least(count, nodes.len() / 5) * 5;
+    let bytes = line::least(used, pool.len());
+    let a = out::bytes(buf, 0, b"T 0 0");
+    let b = out::number(buf, a, count);
+    let c = out::number(buf, b, used);
+    let d = out::hex_words(buf, c, &nodes[..words]);
+    let e = out::hex(buf, d, &pool[..bytes]);
+    let at = out::kept(buf, e, kept(nodes, words, pool, bytes));
+    Outcome {
+        is_made: true,
+        at,
+        words,
+        bytes,
+    }
+}
+
+// `T NO AT KEPT`
+fn refused(buf: &mut [u8], nodes: &[u32], pool: &[u8], no: usize, place: usize) -> Outcome
+    ensures { λ r. ⌜ (r .words ≤ 0) × (r .bytes ≤ 0) ⌝ }
+{
+    let a = out::byte(buf, 0, b'T');
+    let b = out::number(buf, a, no);
+    let c = out::number(buf, b, place);
+    let at = out::kept(buf, c, kept(nodes, 0, pool, 0));
+    Outcome {
+        is_made: false,
+        at,
+        words: 0,
+        bytes: 0,
+    }
+}
+
+// Reads the text into just these rooms, and tells what came of it.
+pub(crate) fn read(
+    buf: &mut [u8],
+    schema: &[u8],
+    root: usize,
+    text: &[u8],
+    nodes: &mut [u32],
+    pool: &mut [u8],
+) -> Outcome
+    ensures { λ r. ⌜ (r .words ≤ length (now (nodes .entry))) × (r .bytes ≤ length (now (pool .entry))) ⌝ }
+{
+    fill_words(nodes);
+    fill_bytes(pool);
+    match text_format::read(schema, root, text, nodes, pool) {
+        Read::Made(count, used) => made(buf, nodes, pool, count, used),
+        Read::No(no, place) => refused(buf, nodes, pool, no as usize, place.offset),
+    }
+}
