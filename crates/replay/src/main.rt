@@ -19,12 +19,23 @@ fn with_line(out: &mut [u8], input: &mut [u8]) {
 
 fn with_image(out: &mut [u8], input: &mut [u8], line: &mut [u8]) {
     let mut image = rooms::image();
-    with_table(out, input, line, &mut image);
+    with_older(out, input, line, &mut image);
 }
 
-fn with_table(out: &mut [u8], input: &mut [u8], line: &mut [u8], image: &mut [u8]) {
+fn with_older(out: &mut [u8], input: &mut [u8], line: &mut [u8], image: &mut [u8]) {
+    let mut older = rooms::image();
+    with_table(out, input, line, image, &mut older);
+}
+
+fn with_table(
+    out: &mut [u8],
+    input: &mut [u8],
+    line: &mut [u8],
+    image: &mut [u8],
+    older: &mut [u8],
+) {
     let mut table = rooms::table();
-    with_pool(out, input, line, image, &mut table);
+    with_pool(out, input, line, image, older, &mut table);
 }
 
 fn with_pool(
@@ -32,10 +43,11 @@ fn with_pool(
     input: &mut [u8],
     line: &mut [u8],
     image: &mut [u8],
+    older: &mut [u8],
     table: &mut [u32],
 ) {
     let mut pool = rooms::pool();
-    with_words(out, input, line, image, table, &mut pool);
+    with_words(out, input, line, image, older, table, &mut pool);
 }
 
 fn with_words(
@@ -43,11 +55,12 @@ fn with_words(
     input: &mut [u8],
     line: &mut [u8],
     image: &mut [u8],
+    older: &mut [u8],
     table: &mut [u32],
     pool: &mut [u8],
 ) {
     let mut words = rooms::words();
-    with_bytes(out, input, line, image, table, pool, &mut words);
+    with_bytes(out, input, line, image, older, table, pool, &mut words);
 }
 
 fn with_bytes(
@@ -55,10 +68,21 @@ fn with_bytes(
     input: &mut [u8],
     line: &mut [u8],
     image: &mut [u8],
+    older: &mut [u8],
     table: &mut [u32],
     pool: &mut [u8],
     words: &mut [u32],
 ) {
     let mut bytes = rooms::bytes();
-    session::answer_all(out, input, line, image, table, pool, words, &mut bytes);
+    session::answer_all(
+        out,
+        input,
+        line,
+        image,
+        older,
+        table,
+        pool,
+        words,
+        &mut bytes,
+    );
 }

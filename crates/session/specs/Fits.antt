@@ -2,7 +2,8 @@
 use Prim.Native.Nat.{ℕ, _≤_}
 use Rattle.session.specs.declared.state.State.{State}
 
-pub record Fits (s : State) (image table pool : ℕ) : Type 0 where
+pub record Fits (s : State) (image older table pool : ℕ) : Type 0 where
   pub schema : s .image ≤ image
+  pub before : s .older ≤ older
   pub nodes : s .table ≤ table
   pub bytes : s .pool ≤ pool

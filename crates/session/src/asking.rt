@@ -104,27 +104,25 @@ fn access(
     out::byte(buf, b, b'\n')
 }
 
-// The line that ends at `end`, which begins with the letter. For `C BYTES` and `Y BYTES` the line's room is the buffer, since the
-// line is not needed once BYTES is known.
+// The request of this letter, whose number stands between `from` and `end` of the line. For `C BYTES` and `Y BYTES` the line's room is the
+// buffer, since the line is not needed once BYTES is known.
 pub(crate) fn ask(
     letter: u8,
     buf: &mut [u8],
     line: &mut [u8],
+    from: usize,
     end: usize,
     image: &[u8],
     root: usize,
     table: &[u32],
     pool: &[u8],
 ) -> Told
-    requires { ⌜ end ≤ length (now line) ⌝ }
+    requires { ⌜ (from ≤ end) × (end ≤ length (now line)) ⌝ }
 {
-    if end < 2 {
-        if letter == b'Q' {
-            return Told::Answer(required(buf, image, root, table, pool));
-        }
-        return Told::NoRequest;
+    if letter == b'Q' {
+        return Told::Answer(required(buf, image, root, table, pool));
     }
-    let Number::Is(n) = number::decimal(&line[2..end]) else {
+    let Number::Is(n) = number::decimal(&line[from..end]) else {
         return Told::NoRequest;
     };
     if letter == b'A' {

@@ -1,4 +1,7 @@
 // Numbers in decimal.
+use crate::line;
+ghost use Prim.Native.Nat.{_≤_};
+ghost use lib.ListN.{length};
 
 pub(crate) enum Number {
     Is(usize),
@@ -36,4 +39,29 @@ pub(crate) fn decimal(s: &[u8]) -> Number {
         i += 1;
     }
     Number::Is(n)
+}
+
+// A number that a space ends, and where the next word begins. Where there is none, n is over every room's length.
+pub(crate) struct Ended {
+    pub(crate) n: usize,
+    pub(crate) next: usize,
+}
+
+pub(crate) fn leading(line: &[u8]) -> Ended
+    ensures { λ r. ⌜ r .next ≤ length (now (line .entry)) ⌝ }
+{
+    let end = line::find(line, 0, line.len(), b' ');
+    if end == line.len() {
+        return Ended {
+            n: usize::MAX,
+            next: 0,
+        };
+    }
+    let Number::Is(n) = decimal(&line[..end]) else {
+        return Ended {
+            n: usize::MAX,
+            next: 0,
+        };
+    };
+    Ended { n, next: end + 1 }
 }

@@ -3,7 +3,6 @@ use crate::hex;
 use crate::hex::Spelled;
 use crate::line;
 use crate::number;
-use crate::number::Number;
 use crate::state;
 use crate::state::Answer;
 use crate::state::State;
@@ -11,31 +10,6 @@ use crate::text;
 ghost use Prim.Native.Nat.{_≤_};
 ghost use lib.ListN.{length};
 ghost use Rattle.session.specs.Fits.{Fits};
-
-// A number that a space ends, and where the next word begins. Where there is none, n is over every room's length.
-struct Ended {
-    n: usize,
-    next: usize,
-}
-
-fn leading(line: &[u8]) -> Ended
-    ensures { λ r. ⌜ r .next ≤ length (now (line .entry)) ⌝ }
-{
-    let end = line::find(line, 0, line.len(), b' ');
-    if end == line.len() {
-        return Ended {
-            n: usize::MAX,
-            next: 0,
-        };
-    }
-    let Number::Is(n) = number::decimal(&line[..end]) else {
-        return Ended {
-            n: usize::MAX,
-            next: 0,
-        };
-    };
-    Ended { n, next: end + 1 }
-}
 
 // Makes these words and bytes the state's table and pool.
 fn store(
@@ -46,7 +20,7 @@ fn store(
     state: State,
     at: usize,
 ) -> Answer
-    ensures { λ r. ⌜ Fits (r .state) (state .image) (length (now (table .entry))) (length (now (pool .entry))) ⌝ }
+    ensures { λ r. ⌜ Fits (r .state) (state .image) (state .older) (length (now (table .entry))) (length (now (pool .entry))) ⌝ }
 {
     let mut next = state;
     next.table = line::copy_words(words, table);
@@ -65,8 +39,8 @@ fn read_text(
     bytes: &mut [u8],
     state: State,
 ) -> Answer
-    requires { ⌜ Fits state (length (now image)) (length (now table)) (length (now pool)) ⌝ }
-    ensures { λ r. ⌜ Fits (r .state) (length (now (image .entry))) (length (now (table .entry))) (length (now (pool .entry))) ⌝ }
+    requires { ⌜ Fits state (length (now image)) (state .older) (length (now table)) (length (now pool)) ⌝ }
+    ensures { λ r. ⌜ Fits (r .state) (length (now (image .entry))) (state .older) (length (now (table .entry))) (length (now (pool .entry))) ⌝ }
 {
     let length = state.image;
     let root = state.root;
@@ -90,8 +64,8 @@ fn read_hex(
     bytes: &mut [u8],
     state: State,
 ) -> Answer
-    requires { ⌜ Fits state (length (now image)) (length (now table)) (length (now pool)) ⌝ }
-    ensures { λ r. ⌜ Fits (r .state) (length (now (image .entry))) (length (now (table .entry))) (length (now (pool .entry))) ⌝ }
+    requires { ⌜ Fits state (length (now image)) (state .older) (length (now table)) (length (now pool)) ⌝ }
+    ensures { λ r. ⌜ Fits (r .state) (length (now (image .entry))) (state .older) (length (now (table .entry))) (length (now (pool .entry))) ⌝ }
 {
     let Spelled::Bytes(n) = hex::decode(line) else {
         return state::none(state);
@@ -110,12 +84,12 @@ pub(crate) fn read(
     bytes: &mut [u8],
     state: State,
 ) -> Answer
-    requires { ⌜ Fits state (length (now image)) (length (now table)) (length (now pool)) ⌝ }
-    ensures { λ r. ⌜ Fits (r .state) (length (now (image .entry))) (length (now (table .entry))) (length (now (pool .entry))) ⌝ }
+    requires { ⌜ Fits state (length (now image)) (state .older) (length (now table)) (length (now pool)) ⌝ }
+    ensures { λ r. ⌜ Fits (r .state) (length (now (image .entry))) (state .older) (length (now (table .entry))) (length (now (pool .entry))) ⌝ }
 {
-    let first = leading(line);
+    let first = number::leading(line);
     let start = first.next;
-    let second = leading(&line[start..]);
+    let second = number::leading(&line[start..]);
     let count = first.n;
     let room = second.n;
     if count > words.len() {

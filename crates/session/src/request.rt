@@ -1,32 +1,45 @@
-// The requests of the line protocol, one to a line.
+// A line of the protocol: what it asks for, and its answer.
 use crate::asking;
 use crate::asking::Told;
+use crate::carrying;
+use crate::line;
+use crate::lines::Lines;
+use crate::out;
 use crate::reading;
 use crate::setting;
 use crate::state;
 use crate::state::Answer;
 use crate::state::State;
-ghost use Prim.Native.Nat.{_≤_, _<_};
+ghost use Prim.Native.Nat.{_≤_};
 ghost use lib.ListN.{length};
 ghost use Rattle.session.specs.Fits.{Fits};
 
-// Whether the line that ends at `end` is to be taken as C, Y, A or a letter alone, as Q is.
-fn is_asking(line: &[u8], end: usize) -> bool
-    requires { ⌜ (0 < end) × (end ≤ length (now line)) ⌝ }
+// The letter of a request, `#` where no answer is due, and 0 for a line that no request begins. Q stands alone, any other letter before
+// a space.
+fn letter_of(line: &[u8], lines: Lines) -> u8
+    requires { ⌜ lines .length ≤ length (now line) ⌝ }
 {
-    if end < 2 {
-        return true;
+    let end = lines.length;
+    if !lines.is_whole {
+        return b'#';
     }
-    if line[1] != b' ' {
-        return false;
+    if end == 0 {
+        return b'#';
     }
     let letter = line[0];
-    match letter {
-        b'C' => true,
-        b'Y' => true,
-        b'A' => true,
-        _ => false,
+    if letter == b'#' {
+        return b'#';
     }
+    if lines.is_long {
+        return 0;
+    }
+    if (letter == b'Q') != (end == 1) {
+        return 0;
+    }
+    if end == 1 {
+        return letter;
+    }
+    if line[1] == b' ' { letter } else { 0 }
 }
 
 // A request that leaves the state as it is.
@@ -34,15 +47,16 @@ fn asked(
     letter: u8,
     buf: &mut [u8],
     line: &mut [u8],
+    from: usize,
     end: usize,
     image: &[u8],
     table: &[u32],
     pool: &[u8],
     state: State,
 ) -> Answer
-    requires { ⌜ end ≤ length (now line) ⌝ }
-    requires { ⌜ Fits state (length (now image)) (length (now table)) (length (now pool)) ⌝ }
-    ensures { λ r. ⌜ Fits (r .state) (state .image) (state .table) (state .pool) ⌝ }
+    requires { ⌜ (from ≤ end) × (end ≤ length (now line)) ⌝ }
+    requires { ⌜ (state .image ≤ length (now image)) × ((state .table ≤ length (now table)) × (state .pool ≤ length (now pool))) ⌝ }
+    ensures { λ r. ⌜ Fits (r .state) (state .image) (state .older) (state .table) (state .pool) ⌝ }
 {
     let schema = state.image;
     let root = state.root;
@@ -52,6 +66,7 @@ fn asked(
         letter,
         buf,
         line,
+        from,
         end,
         &image[..schema],
         root,
@@ -63,63 +78,78 @@ fn asked(
     state::done(state, at)
 }
 
-// A request that may change the state.
-fn changed(
+// The answer to the line. Its room is longer than it, and lent to the prints.
+pub(crate) fn request(
     buf: &mut [u8],
     line: &mut [u8],
-    end: usize,
     image: &mut [u8],
+    older: &mut [u8],
     table: &mut [u32],
     pool: &mut [u8],
     words: &mut [u32],
     bytes: &mut [u8],
+    lines: Lines,
     state: State,
 ) -> Answer
-    requires { ⌜ (0 < end) × (end ≤ length (now line)) ⌝ }
-    requires { ⌜ Fits state (length (now image)) (length (now table)) (length (now pool)) ⌝ }
-    ensures { λ r. ⌜ Fits (r .state) (length (now (image .entry))) (length (now (table .entry))) (length (now (pool .entry))) ⌝ }
+    requires { ⌜ lines .length ≤ length (now line) ⌝ }
+    requires { ⌜ Fits state (length (now image)) (length (now older)) (length (now table)) (length (now pool)) ⌝ }
+    ensures { λ r. ⌜ Fits (r .state) (length (now (image .entry))) (length (now (older .entry))) (length (now (table .entry))) (length (now (pool .entry))) ⌝ }
 {
-    if end < 2 {
-        return state::none(state);
-    }
-    if line[1] != b' ' {
-        return state::none(state);
-    }
-    let letter = line[0];
-    if letter == b'T' {
-        return reading::read(
+    let letter = letter_of(line, lines);
+    let end = lines.length;
+    let from = line::least(2, end);
+    match letter {
+        b'#' => state::done(state, 0),
+        b'T' => reading::read(
             buf,
-            &mut line[2..end],
+            &mut line[from..end],
             image,
             table,
             pool,
             words,
             bytes,
             state,
-        );
+        ),
+        b'X' => {
+            carrying::carry(
+                buf,
+                line,
+                from,
+                end,
+                image,
+                older,
+                table,
+                pool,
+                words,
+                bytes,
+                state,
+            )
+        }
+        b'C' | b'Y' | b'A' | b'Q' => {
+            asked(letter, buf, line, from, end, image, table, pool, state)
+        }
+        _ => setting::set(
+            letter,
+            &mut line[from..end],
+            image,
+            older,
+            table,
+            pool,
+            state,
+        ),
     }
-    setting::set(letter, &mut line[2..end], image, table, pool, state)
 }
 
-// The line that ends at `end` and is neither blank nor begins with `#`. Its room is longer, and lent to the prints.
-pub(crate) fn request(
-    buf: &mut [u8],
-    line: &mut [u8],
-    end: usize,
-    image: &mut [u8],
-    table: &mut [u32],
-    pool: &mut [u8],
-    words: &mut [u32],
-    bytes: &mut [u8],
-    state: State,
-) -> Answer
-    requires { ⌜ (0 < end) × (end ≤ length (now line)) ⌝ }
-    requires { ⌜ Fits state (length (now image)) (length (now table)) (length (now pool)) ⌝ }
-    ensures { λ r. ⌜ Fits (r .state) (length (now (image .entry))) (length (now (table .entry))) (length (now (pool .entry))) ⌝ }
+// Writes the answer, or that the line is no request, and hands the state on.
+pub(crate) fn tell(buf: &mut [u8], answer: Answer, count: usize) -> State
+    ensures { λ r. ⌜ Fits r (answer .state .image) (answer .state .older) (answer .state .table) (answer .state .pool) ⌝ }
 {
-    if is_asking(line, end) {
-        let letter = line[0];
-        return asked(letter, buf, line, end, image, table, pool, state);
+    let state = answer.state;
+    if answer.is_request {
+        out::flush(buf, answer.at);
+        return state;
     }
-    changed(buf, line, end, image, table, pool, words, bytes, state)
+    let at = out::no_request(buf, 0, count);
+    out::flush(buf, at);
+    state
 }

@@ -1,4 +1,4 @@
-// The requests that set a part of the state and have no answer: S, R, N and P. `line` is what follows the letter and a space.
+// The requests that set a part of the state and have no answer: S, O, R, N and P. `line` is what follows the letter and a space.
 use crate::hex;
 use crate::hex::Spelled;
 use crate::line;
@@ -14,7 +14,7 @@ ghost use Rattle.session.specs.Fits.{Fits};
 // `S HEX`. No image longer than its room can be accepted, nor can such a one cut at the room's end.
 fn schema(line: &mut [u8], image: &mut [u8], state: State) -> Answer
     requires { ⌜ state .image ≤ length (now image) ⌝ }
-    ensures { λ r. ⌜ Fits (r .state) (length (now (image .entry))) (state .table) (state .pool) ⌝ }
+    ensures { λ r. ⌜ Fits (r .state) (length (now (image .entry))) (state .older) (state .table) (state .pool) ⌝ }
 {
     let Spelled::Bytes(n) = hex::decode(line) else {
         return state::none(state);
@@ -24,9 +24,22 @@ fn schema(line: &mut [u8], image: &mut [u8], state: State) -> Answer
     state::done(next, 0)
 }
 
+// `O HEX`, likewise.
+fn before(line: &mut [u8], older: &mut [u8], state: State) -> Answer
+    requires { ⌜ state .older ≤ length (now older) ⌝ }
+    ensures { λ r. ⌜ Fits (r .state) (state .image) (length (now (older .entry))) (state .table) (state .pool) ⌝ }
+{
+    let Spelled::Bytes(n) = hex::decode(line) else {
+        return state::none(state);
+    };
+    let mut next = state;
+    next.older = line::copy(&line[..n], older);
+    state::done(next, 0)
+}
+
 // `R N`
 fn root(line: &[u8], state: State) -> Answer
-    ensures { λ r. ⌜ Fits (r .state) (state .image) (state .table) (state .pool) ⌝ }
+    ensures { λ r. ⌜ Fits (r .state) (state .image) (state .older) (state .table) (state .pool) ⌝ }
 {
     let Number::Is(n) = number::decimal(line) else {
         return state::none(state);
@@ -39,7 +52,7 @@ fn root(line: &[u8], state: State) -> Answer
 // `N HEX`. No valid table reaches past the room, and words after a table's end are ignored, so more words are cut at the room's end.
 fn nodes(line: &mut [u8], table: &mut [u32], state: State) -> Answer
     requires { ⌜ state .table ≤ length (now table) ⌝ }
-    ensures { λ r. ⌜ Fits (r .state) (state .image) (length (now (table .entry))) (state .pool) ⌝ }
+    ensures { λ r. ⌜ Fits (r .state) (state .image) (state .older) (length (now (table .entry))) (state .pool) ⌝ }
 {
     let Spelled::Bytes(n) = hex::decode(line) else {
         return state::none(state);
@@ -55,7 +68,7 @@ fn nodes(line: &mut [u8], table: &mut [u32], state: State) -> Answer
 // `P HEX`. A pool longer than its room is no request, since what is cut off could be asked for.
 fn bytes(line: &mut [u8], pool: &mut [u8], state: State) -> Answer
     requires { ⌜ state .pool ≤ length (now pool) ⌝ }
-    ensures { λ r. ⌜ Fits (r .state) (state .image) (state .table) (length (now (pool .entry))) ⌝ }
+    ensures { λ r. ⌜ Fits (r .state) (state .image) (state .older) (state .table) (length (now (pool .entry))) ⌝ }
 {
     let Spelled::Bytes(n) = hex::decode(line) else {
         return state::none(state);
@@ -72,15 +85,17 @@ pub(crate) fn set(
     letter: u8,
     line: &mut [u8],
     image: &mut [u8],
+    older: &mut [u8],
     table: &mut [u32],
     pool: &mut [u8],
     state: State,
 ) -> Answer
-    requires { ⌜ Fits state (length (now image)) (length (now table)) (length (now pool)) ⌝ }
-    ensures { λ r. ⌜ Fits (r .state) (length (now (image .entry))) (length (now (table .entry))) (length (now (pool .entry))) ⌝ }
+    requires { ⌜ Fits state (length (now image)) (length (now older)) (length (now table)) (length (now pool)) ⌝ }
+    ensures { λ r. ⌜ Fits (r .state) (length (now (image .entry))) (length (now (older .entry))) (length (now (table .entry))) (length (now (pool .entry))) ⌝ }
 {
     match letter {
         b'S' => schema(line, image, state),
+        b'O' => before(line, older, state),
         b'R' => root(line, state),
         b'N' => nodes(line, table, state),
         b'P' => bytes(line, pool, state),

@@ -1,9 +1,10 @@
 // The state between requests, and what a request leaves.
 ghost use Rattle.session.specs.Fits.{Fits};
 
-// The root, and how much of their rooms the schema image, the node table and the pool take.
+// The root, and how much of their rooms the schema image, the older one, the node table and the pool take.
 pub(crate) struct State {
     pub(crate) image: usize,
+    pub(crate) older: usize,
     pub(crate) root: usize,
     pub(crate) table: usize,
     pub(crate) pool: usize,
@@ -16,8 +17,20 @@ pub(crate) struct Answer {
     pub(crate) at: usize,
 }
 
+pub(crate) fn empty() -> State
+    ensures { λ r. ⌜ Fits r 0 0 0 0 ⌝ }
+{
+    State {
+        image: 0,
+        older: 0,
+        root: 0,
+        table: 0,
+        pool: 0,
+    }
+}
+
 pub(crate) fn done(state: State, at: usize) -> Answer
-    ensures { λ r. ⌜ Fits (r .state) (state .image) (state .table) (state .pool) ⌝ }
+    ensures { λ r. ⌜ Fits (r .state) (state .image) (state .older) (state .table) (state .pool) ⌝ }
 {
     Answer {
         state,
@@ -27,7 +40,7 @@ pub(crate) fn done(state: State, at: usize) -> Answer
 }
 
 pub(crate) fn none(state: State) -> Answer
-    ensures { λ r. ⌜ Fits (r .state) (state .image) (state .table) (state .pool) ⌝ }
+    ensures { λ r. ⌜ Fits (r .state) (state .image) (state .older) (state .table) (state .pool) ⌝ }
 {
     Answer {
         state,

@@ -49,14 +49,14 @@ pub(crate) fn kept_bytes(s: &[u8], from: usize) -> bool {
     true
 }
 
-fn kept(nodes: &[u32], words: usize, pool: &[u8], bytes: usize) -> bool {
+pub(crate) fn kept(nodes: &[u32], words: usize, pool: &[u8], bytes: usize) -> bool {
     if kept_words(nodes, words) {
         return kept_bytes(pool, bytes);
     }
     false
 }
 
-// What a read came to: how much of the buffer is to be written, and where a table was made, its words and its pool's bytes.
+// What a read or a carrying came to: how much of the buffer is to be written, and where a table was made, its words and its pool's bytes.
 pub(crate) struct Outcome {
     pub(crate) is_made: bool,
     pub(crate) at: usize,
@@ -64,23 +64,43 @@ pub(crate) struct Outcome {
     pub(crate) bytes: usize,
 }
 
-// `T 0 0 NODES POOLBYTES WORDSHEX POOLHEX KEPT`. Where a count went over its room, what is there is told.
-fn made(buf: &mut [u8], nodes: &[u32], pool: &[u8], count: usize, used: usize) -> Outcome
+// `NODES POOLBYTES WORDSHEX POOLHEX` from `at` on. Where a count went over its room, what is there is told.
+pub(crate) fn tell(
+    buf: &mut [u8],
+    at: usize,
+    nodes: &[u32],
+    pool: &[u8],
+    count: usize,
+    used: usize,
+) -> Outcome
     ensures { λ r. ⌜ (r .words ≤ length (now (nodes .entry))) × (r .bytes ≤ length (now (pool .entry))) ⌝ }
 {
     let words = line::least(count, nodes.len() / 5) * 5;
     let bytes = line::least(used, pool.len());
+    let a = out::number(buf, at, count);
+    let b = out::number(buf, a, used);
+    let c = out::hex_words(buf, b, &nodes[..words]);
+    let d = out::hex(buf, c, &pool[..bytes]);
+    Outcome {
+        is_made: true,
+        at: d,
+        words,
+        bytes,
+    }
+}
+
+// `T 0 0 NODES POOLBYTES WORDSHEX POOLHEX KEPT`
+fn made(buf: &mut [u8], nodes: &[u32], pool: &[u8], count: usize, used: usize) -> Outcome
+    ensures { λ r. ⌜ (r .words ≤ length (now (nodes .entry))) × (r .bytes ≤ length (now (pool .entry))) ⌝ }
+{
     let a = out::bytes(buf, 0, b"T 0 0");
-    let b = out::number(buf, a, count);
-    let c = out::number(buf, b, used);
-    let d = out::hex_words(buf, c, &nodes[..words]);
-    let e = out::hex(buf, d, &pool[..bytes]);
-    let at = out::kept(buf, e, kept(nodes, words, pool, bytes));
+    let told = tell(buf, a, nodes, pool, count, used);
+    let at = out::kept(buf, told.at, kept(nodes, told.words, pool, told.bytes));
     Outcome {
         is_made: true,
         at,
-        words,
-        bytes,
+        words: told.words,
+        bytes: told.bytes,
     }
 }
 

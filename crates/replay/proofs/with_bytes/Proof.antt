@@ -7,7 +7,7 @@ bytes-requires : tie.Need-bytes-requires
 bytes-requires c κs = search needs
 
 slice-aggregate-answer-all : tie.Need-slice-aggregate-answer-all
-slice-aggregate-answer-all c = c .before .before .before .before .before .before .before .before .bytes .ensures
+slice-aggregate-answer-all c = c .before .before .before .before .before .before .before .before .before .bytes .ensures
 
 answer-all-requires : tie.Need-answer-all-requires
 answer-all-requires c κs = search needs
@@ -33,6 +33,9 @@ same-length-6 c = search needs
 same-length-7 : tie.Need-same-length-7
 same-length-7 c = search needs
 
+same-length-8 : tie.Need-same-length-8
+same-length-8 c = search needs
+
 returns : tie.Need-returns
 returns c = search needs
 
@@ -50,4 +53,5 @@ with-bytes-spec =
     same-length-5
     same-length-6
     same-length-7
+    same-length-8
     returns)

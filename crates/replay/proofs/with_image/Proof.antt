@@ -6,11 +6,11 @@ use Rattle.replay.proofs.with_image.Tie as tie
 image-requires : tie.Need-image-requires
 image-requires c κs = search needs
 
-slice-aggregate-with-table : tie.Need-slice-aggregate-with-table
-slice-aggregate-with-table c = c .before .before .before .before .image .ensures
+slice-aggregate-with-older : tie.Need-slice-aggregate-with-older
+slice-aggregate-with-older c = c .before .before .before .before .image .ensures
 
-with-table-requires : tie.Need-with-table-requires
-with-table-requires c κs = search needs
+with-older-requires : tie.Need-with-older-requires
+with-older-requires c κs = search needs
 
 same-length : tie.Need-same-length
 same-length c = search needs
@@ -29,8 +29,8 @@ with-image-spec =
     tie.close
     (tie.spec
     image-requires
-    slice-aggregate-with-table
-    with-table-requires
+    slice-aggregate-with-older
+    with-older-requires
     same-length
     same-length-2
     same-length-3

@@ -7,7 +7,7 @@ pool-requires : tie.Need-pool-requires
 pool-requires c κs = search needs
 
 slice-aggregate-with-words : tie.Need-slice-aggregate-with-words
-slice-aggregate-with-words c = c .before .before .before .before .before .before .pool .ensures
+slice-aggregate-with-words c = c .before .before .before .before .before .before .before .pool .ensures
 
 with-words-requires : tie.Need-with-words-requires
 with-words-requires c κs = search needs
@@ -27,6 +27,9 @@ same-length-4 c = search needs
 same-length-5 : tie.Need-same-length-5
 same-length-5 c = search needs
 
+same-length-6 : tie.Need-same-length-6
+same-length-6 c = search needs
+
 returns : tie.Need-returns
 returns c = search needs
 
@@ -42,4 +45,5 @@ with-pool-spec =
     same-length-3
     same-length-4
     same-length-5
+    same-length-6
     returns)

@@ -7,7 +7,7 @@ table-requires : tie.Need-table-requires
 table-requires c κs = search needs
 
 slice-aggregate-with-pool : tie.Need-slice-aggregate-with-pool
-slice-aggregate-with-pool c = c .before .before .before .before .before .table .ensures
+slice-aggregate-with-pool c = c .before .before .before .before .before .before .table .ensures
 
 with-pool-requires : tie.Need-with-pool-requires
 with-pool-requires c κs = search needs
@@ -24,6 +24,9 @@ same-length-3 c = search needs
 same-length-4 : tie.Need-same-length-4
 same-length-4 c = search needs
 
+same-length-5 : tie.Need-same-length-5
+same-length-5 c = search needs
+
 returns : tie.Need-returns
 returns c = search needs
 
@@ -38,4 +41,5 @@ with-table-spec =
     same-length-2
     same-length-3
     same-length-4
+    same-length-5
     returns)

@@ -7,7 +7,7 @@ words-requires : tie.Need-words-requires
 words-requires c κs = search needs
 
 slice-aggregate-with-bytes : tie.Need-slice-aggregate-with-bytes
-slice-aggregate-with-bytes c = c .before .before .before .before .before .before .before .words .ensures
+slice-aggregate-with-bytes c = c .before .before .before .before .before .before .before .before .words .ensures
 
 with-bytes-requires : tie.Need-with-bytes-requires
 with-bytes-requires c κs = search needs
@@ -30,6 +30,9 @@ same-length-5 c = search needs
 same-length-6 : tie.Need-same-length-6
 same-length-6 c = search needs
 
+same-length-7 : tie.Need-same-length-7
+same-length-7 c = search needs
+
 returns : tie.Need-returns
 returns c = search needs
 
@@ -46,4 +49,5 @@ with-words-spec =
     same-length-4
     same-length-5
     same-length-6
+    same-length-7
     returns)

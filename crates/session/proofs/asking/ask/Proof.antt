@@ -14,8 +14,8 @@ same-length c = search needs
 returns : tie.Need-returns
 returns c = search needs
 
-returns-2 : tie.Need-returns-2
-returns-2 c = search needs
+sub-decimal : tie.Need-sub-decimal
+sub-decimal c = search needs
 
 part-decimal-start : tie.Need-part-decimal-start
 part-decimal-start c = search needs
@@ -35,8 +35,8 @@ enum-told c = search needs
 same-length-2 : tie.Need-same-length-2
 same-length-2 c = search needs
 
-returns-3 : tie.Need-returns-3
-returns-3 c = search needs
+returns-2 : tie.Need-returns-2
+returns-2 c = search needs
 
 access-requires : tie.Need-access-requires
 access-requires c κs = search needs
@@ -47,14 +47,14 @@ same-length-3 c = search needs
 same-length-4 : tie.Need-same-length-4
 same-length-4 c = search needs
 
-returns-4 : tie.Need-returns-4
-returns-4 c = search needs
+returns-3 : tie.Need-returns-3
+returns-3 c = search needs
 
 same-length-5 : tie.Need-same-length-5
 same-length-5 c = search needs
 
-returns-5 : tie.Need-returns-5
-returns-5 c = search needs
+returns-4 : tie.Need-returns-4
+returns-4 c = search needs
 
 slice-relend-prefix-print : tie.Need-slice-relend-prefix-print
 slice-relend-prefix-print c = search needs
@@ -71,8 +71,8 @@ same-length-6 c = search needs
 same-length-7 : tie.Need-same-length-7
 same-length-7 c = search needs
 
-returns-6 : tie.Need-returns-6
-returns-6 c = search needs
+returns-5 : tie.Need-returns-5
+returns-5 c = search needs
 
 pub ask-spec : {M : Type 1} → statement M
 ask-spec =
@@ -81,23 +81,23 @@ ask-spec =
     required-requires
     same-length
     returns
-    returns-2
+    sub-decimal
     part-decimal-start
     part-decimal-end
     decimal-requires
     enum-known-n
     enum-told
     same-length-2
-    returns-3
+    returns-2
     access-requires
     same-length-3
     same-length-4
-    returns-4
+    returns-3
     same-length-5
-    returns-5
+    returns-4
     slice-relend-prefix-print
     slice-aggregate-print
     print-requires
     same-length-6
     same-length-7
-    returns-6)
+    returns-5)

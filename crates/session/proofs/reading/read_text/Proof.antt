@@ -58,7 +58,7 @@ same-length-8 : tie.Need-same-length-8
 same-length-8 c = search needs
 
 returns-2 : tie.Need-returns-2
-returns-2 c = record { schema = omega (arith, c .before .before .before .before .store .ensures .schema, c .before .before .before .before .before .before .before .before .before .before .before .before .before .before .before .before .before .before .before .before .before .before .before .before .before .before .before .before .before .pre .schema); nodes = c .before .before .before .before .store .ensures .nodes; bytes = c .before .before .before .before .store .ensures .bytes }
+returns-2 c = record { schema = omega (arith, c .before .before .before .before .store .ensures .schema, c .before .before .before .before .before .before .before .before .before .before .before .before .before .before .before .before .before .before .before .before .before .before .before .before .before .before .before .before .before .pre .schema); before = c .before .before .before .before .store .ensures .before; nodes = c .before .before .before .before .store .ensures .nodes; bytes = c .before .before .before .before .store .ensures .bytes }
 
 pub read-text-spec : {M : Type 1} → statement M
 read-text-spec =

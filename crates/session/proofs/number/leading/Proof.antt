@@ -1,9 +1,9 @@
--- `session::reading::leading` stays within the line. Assumes nothing.
+-- `session::number::leading` stays within the line. Assumes nothing.
 use borrow.Author.Needs.{needs}
 use mathlib.Core.Path.{sym}
 use lib.Seq.{length-take-le}
-use Rattle.session.proofs.reading.leading.Statement.{statement}
-use Rattle.session.proofs.reading.leading.Tie as tie
+use Rattle.session.proofs.number.leading.Statement.{statement}
+use Rattle.session.proofs.number.leading.Tie as tie
 
 find-requires : tie.Need-find-requires
 find-requires c κs = search needs

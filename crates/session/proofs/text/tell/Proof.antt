@@ -1,9 +1,9 @@
--- `session::text::made` tells no more words and bytes than there are. Assumes nothing.
+-- `session::text::tell` tells no more words and bytes than there are. Assumes nothing.
 use borrow.Author.Needs.{needs}
 use mathlib.Core.Path.{sym}
 use lib.Seq.{length-take-le}
-use Rattle.session.proofs.text.made.Statement.{statement}
-use Rattle.session.proofs.text.made.Tie as tie
+use Rattle.session.proofs.text.tell.Statement.{statement}
+use Rattle.session.proofs.text.tell.Tie as tie
 
 least-requires : tie.Need-least-requires
 least-requires c κs = search needs
@@ -13,12 +13,6 @@ mul-words c = search needs
 
 least-requires-2 : tie.Need-least-requires-2
 least-requires-2 c κs = search needs
-
-slice-aggregate-bytes : tie.Need-slice-aggregate-bytes
-slice-aggregate-bytes c = search needs
-
-bytes-requires : tie.Need-bytes-requires
-bytes-requires c κs = search needs
 
 number-requires : tie.Need-number-requires
 number-requires c κs = search needs
@@ -38,34 +32,24 @@ slice-aggregate-hex c = sym (length-take-le _ _ (search needs))
 hex-requires : tie.Need-hex-requires
 hex-requires c κs = search needs
 
-kept-requires : tie.Need-kept-requires
-kept-requires c κs = search needs
-
-kept-requires-2 : tie.Need-kept-requires-2
-kept-requires-2 c κs = search needs
-
 same-length : tie.Need-same-length
 same-length c = search needs
 
 returns : tie.Need-returns
 returns c = search needs
 
-pub made-spec : {M : Type 1} → statement M
-made-spec =
+pub tell-spec : {M : Type 1} → statement M
+tell-spec =
     tie.close
     (tie.spec
     least-requires
     mul-words
     least-requires-2
-    slice-aggregate-bytes
-    bytes-requires
     number-requires
     number-requires-2
     slice-aggregate-hex-words
     hex-words-requires
     slice-aggregate-hex
     hex-requires
-    kept-requires
-    kept-requires-2
     same-length
     returns)
