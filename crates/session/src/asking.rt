@@ -1,4 +1,5 @@
-// The requests over table and pool: C, Y, Q and A. None of them changes the state.
+// The requests over table and pool: C, Y, Q, A and X. None of them changes the state.
+use crate::carrying;
 use crate::line;
 use crate::number;
 use crate::number::Number;
@@ -104,8 +105,8 @@ fn access(
     out::byte(buf, b, b'\n')
 }
 
-// The request of this letter, whose number stands between `from` and `end` of the line. For `C BYTES` and `Y BYTES` the line's room is the
-// buffer, since the line is not needed once BYTES is known.
+// The request of this letter, whose numbers stand between `from` and `end` of the line. For C, Y and X the line's room is the buffer that
+// is printed into, since the line is not needed once its numbers are known.
 pub(crate) fn ask(
     letter: u8,
     buf: &mut [u8],
@@ -113,14 +114,32 @@ pub(crate) fn ask(
     from: usize,
     end: usize,
     image: &[u8],
+    older: &[u8],
     root: usize,
     table: &[u32],
     pool: &[u8],
+    words: &mut [u32],
+    bytes: &mut [u8],
 ) -> Told
     requires { ⌜ (from ≤ end) × (end ≤ length (now line)) ⌝ }
 {
     if letter == b'Q' {
         return Told::Answer(required(buf, image, root, table, pool));
+    }
+    if letter == b'X' {
+        let sizes = carrying::sizes(&line[from..end]);
+        return carrying::carry(
+            buf,
+            line,
+            sizes,
+            image,
+            older,
+            root,
+            table,
+            pool,
+            words,
+            bytes,
+        );
     }
     let Number::Is(n) = number::decimal(&line[from..end]) else {
         return Told::NoRequest;

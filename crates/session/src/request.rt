@@ -1,7 +1,6 @@
 // A line of the protocol: what it asks for, and its answer.
 use crate::asking;
 use crate::asking::Told;
-use crate::carrying;
 use crate::line;
 use crate::lines::Lines;
 use crate::out;
@@ -50,18 +49,22 @@ fn asked(
     from: usize,
     end: usize,
     image: &[u8],
+    older: &[u8],
     table: &[u32],
     pool: &[u8],
+    words: &mut [u32],
+    bytes: &mut [u8],
     state: State,
 ) -> Answer
     requires { ⌜ (from ≤ end) × (end ≤ length (now line)) ⌝ }
-    requires { ⌜ (state .image ≤ length (now image)) × ((state .table ≤ length (now table)) × (state .pool ≤ length (now pool))) ⌝ }
+    requires { ⌜ Fits state (length (now image)) (length (now older)) (length (now table)) (length (now pool)) ⌝ }
     ensures { λ r. ⌜ Fits (r .state) (state .image) (state .older) (state .table) (state .pool) ⌝ }
 {
     let schema = state.image;
+    let before = state.older;
     let root = state.root;
-    let words = state.table;
-    let bytes = state.pool;
+    let count = state.table;
+    let used = state.pool;
     let Told::Answer(at) = asking::ask(
         letter,
         buf,
@@ -69,9 +72,12 @@ fn asked(
         from,
         end,
         &image[..schema],
+        &older[..before],
         root,
-        &table[..words],
-        &pool[..bytes],
+        &table[..count],
+        &pool[..used],
+        words,
+        bytes,
     ) else {
         return state::none(state);
     };
@@ -100,34 +106,24 @@ pub(crate) fn request(
     let from = line::least(2, end);
     match letter {
         b'#' => state::done(state, 0),
-        b'T' => reading::read(
+        b'T' => {
+            let made = reading::read(buf, &mut line[from..end], image, words, bytes, state);
+            reading::store(table, pool, words, bytes, made, state)
+        }
+        b'C' | b'Y' | b'A' | b'Q' | b'X' => asked(
+            letter,
             buf,
-            &mut line[from..end],
+            line,
+            from,
+            end,
             image,
+            older,
             table,
             pool,
             words,
             bytes,
             state,
         ),
-        b'X' => {
-            carrying::carry(
-                buf,
-                line,
-                from,
-                end,
-                image,
-                older,
-                table,
-                pool,
-                words,
-                bytes,
-                state,
-            )
-        }
-        b'C' | b'Y' | b'A' | b'Q' => {
-            asked(letter, buf, line, from, end, image, table, pool, state)
-        }
         _ => setting::set(
             letter,
             &mut line[from..end],

@@ -2,8 +2,6 @@
 use crate::line;
 use crate::out;
 use parse::Read;
-ghost use Prim.Native.Nat.{_≤_};
-ghost use lib.ListN.{length};
 
 // What every word and byte of a room holds before a call.
 const WORD: u32 = 0xa5a5a5a5;
@@ -56,12 +54,25 @@ pub(crate) fn kept(nodes: &[u32], words: usize, pool: &[u8], bytes: usize) -> bo
     false
 }
 
-// What a read or a carrying came to: how much of the buffer is to be written, and where a table was made, its words and its pool's bytes.
+// What a read or a carrying came to: whether the line was a request, how much of the buffer is to be written, and where a table was
+// made, its words and its pool's bytes.
 pub(crate) struct Outcome {
+    pub(crate) is_request: bool,
     pub(crate) is_made: bool,
     pub(crate) at: usize,
     pub(crate) words: usize,
     pub(crate) bytes: usize,
+}
+
+// What a line that is no request comes to.
+pub(crate) fn none() -> Outcome {
+    Outcome {
+        is_request: false,
+        is_made: false,
+        at: 0,
+        words: 0,
+        bytes: 0,
+    }
 }
 
 // `NODES POOLBYTES WORDSHEX POOLHEX` from `at` on. Where a count went over its room, what is there is told.
@@ -72,9 +83,7 @@ pub(crate) fn tell(
     pool: &[u8],
     count: usize,
     used: usize,
-) -> Outcome
-    ensures { λ r. ⌜ (r .words ≤ length (now (nodes .entry))) × (r .bytes ≤ length (now (pool .entry))) ⌝ }
-{
+) -> Outcome {
     let words = line::least(count, nodes.len() / 5) * 5;
     let bytes = line::least(used, pool.len());
     let a = out::number(buf, at, count);
@@ -82,6 +91,7 @@ pub(crate) fn tell(
     let c = out::hex_words(buf, b, &nodes[..words]);
     let d = out::hex(buf, c, &pool[..bytes]);
     Outcome {
+        is_request: true,
         is_made: true,
         at: d,
         words,
@@ -90,13 +100,12 @@ pub(crate) fn tell(
 }
 
 // `T 0 0 NODES POOLBYTES WORDSHEX POOLHEX KEPT`
-fn made(buf: &mut [u8], nodes: &[u32], pool: &[u8], count: usize, used: usize) -> Outcome
-    ensures { λ r. ⌜ (r .words ≤ length (now (nodes .entry))) × (r .bytes ≤ length (now (pool .entry))) ⌝ }
-{
+fn made(buf: &mut [u8], nodes: &[u32], pool: &[u8], count: usize, used: usize) -> Outcome {
     let a = out::bytes(buf, 0, b"T 0 0");
     let told = tell(buf, a, nodes, pool, count, used);
     let at = out::kept(buf, told.at, kept(nodes, told.words, pool, told.bytes));
     Outcome {
+        is_request: true,
         is_made: true,
         at,
         words: told.words,
@@ -105,14 +114,13 @@ fn made(buf: &mut [u8], nodes: &[u32], pool: &[u8], count: usize, used: usize) -
 }
 
 // `T NO AT KEPT`
-fn refused(buf: &mut [u8], nodes: &[u32], pool: &[u8], no: usize, place: usize) -> Outcome
-    ensures { λ r. ⌜ (r .words ≤ 0) × (r .bytes ≤ 0) ⌝ }
-{
+fn refused(buf: &mut [u8], nodes: &[u32], pool: &[u8], no: usize, place: usize) -> Outcome {
     let a = out::byte(buf, 0, b'T');
     let b = out::number(buf, a, no);
     let c = out::number(buf, b, place);
     let at = out::kept(buf, c, kept(nodes, 0, pool, 0));
     Outcome {
+        is_request: true,
         is_made: false,
         at,
         words: 0,
@@ -128,9 +136,7 @@ pub(crate) fn read(
     text: &[u8],
     nodes: &mut [u32],
     pool: &mut [u8],
-) -> Outcome
-    ensures { λ r. ⌜ (r .words ≤ length (now (nodes .entry))) × (r .bytes ≤ length (now (pool .entry))) ⌝ }
-{
+) -> Outcome {
     fill_words(nodes);
     fill_bytes(pool);
     match text_format::read(schema, root, text, nodes, pool) {

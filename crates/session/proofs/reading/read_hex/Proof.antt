@@ -1,4 +1,4 @@
--- `session::reading::read_hex` keeps the state within its rooms. Assumes nothing.
+-- `session::reading::read_hex` is safe and ends: it reads no more bytes than the line spells. Assumes nothing.
 use borrow.Author.Needs.{needs}
 use mathlib.Core.Path.{sym}
 use native.Mathlib.Omega.{arith}
@@ -25,14 +25,17 @@ same-length c = search needs
 returns : tie.Need-returns
 returns c = search needs
 
-slice-reshare-prefix-read-text : tie.Need-slice-reshare-prefix-read-text
-slice-reshare-prefix-read-text c = omega (arith, within _ _ _ (c .before .before .n .given .1) (c .before .before .before .before .before .before .decode .ensures))
+slice-aggregate-read : tie.Need-slice-aggregate-read
+slice-aggregate-read c = sym (length-take-le _ _ (search needs))
 
-slice-aggregate-read-text : tie.Need-slice-aggregate-read-text
-slice-aggregate-read-text c = sym (length-take-le _ _ (omega (arith, within _ _ _ (c .before .before .before .n .given .1) (c .before .before .before .before .before .before .before .decode .ensures))))
+slice-reshare-prefix-read : tie.Need-slice-reshare-prefix-read
+slice-reshare-prefix-read c = omega (arith, within _ _ _ (c .before .before .before .n .given .1) (c .before .before .before .before .before .before .before .decode .ensures))
 
-read-text-requires : tie.Need-read-text-requires
-read-text-requires c κs = search needs
+slice-aggregate-read-2 : tie.Need-slice-aggregate-read-2
+slice-aggregate-read-2 c = sym (length-take-le _ _ (omega (arith, within _ _ _ (c .before .before .before .before .n .given .1) (c .before .before .before .before .before .before .before .before .decode .ensures))))
+
+read-requires : tie.Need-read-requires
+read-requires c κs = search needs
 
 same-length-2 : tie.Need-same-length-2
 same-length-2 c = search needs
@@ -45,12 +48,6 @@ same-length-4 c = search needs
 
 same-length-5 : tie.Need-same-length-5
 same-length-5 c = search needs
-
-same-length-6 : tie.Need-same-length-6
-same-length-6 c = search needs
-
-same-length-7 : tie.Need-same-length-7
-same-length-7 c = search needs
 
 returns-2 : tie.Need-returns-2
 returns-2 c = search needs
@@ -65,13 +62,12 @@ read-hex-spec =
     none-requires
     same-length
     returns
-    slice-reshare-prefix-read-text
-    slice-aggregate-read-text
-    read-text-requires
+    slice-aggregate-read
+    slice-reshare-prefix-read
+    slice-aggregate-read-2
+    read-requires
     same-length-2
     same-length-3
     same-length-4
     same-length-5
-    same-length-6
-    same-length-7
     returns-2)

@@ -26,11 +26,8 @@ part-read-end c = search needs
 read-requires : tie.Need-read-requires
 read-requires c κs = search needs
 
-carry-requires : tie.Need-carry-requires
-carry-requires c κs = search needs
-
-asked-requires : tie.Need-asked-requires
-asked-requires c κs = search needs
+store-requires : tie.Need-store-requires
+store-requires c κs = search needs
 
 sub-set : tie.Need-sub-set
 sub-set c = search needs
@@ -43,6 +40,9 @@ part-set-end c = search needs
 
 set-requires : tie.Need-set-requires
 set-requires c κs = search needs
+
+asked-requires : tie.Need-asked-requires
+asked-requires c κs = search needs
 
 same-length : tie.Need-same-length
 same-length c = search needs
@@ -72,7 +72,7 @@ same-length-8 : tie.Need-same-length-8
 same-length-8 c = search needs
 
 returns-2 : tie.Need-returns-2
-returns-2 c = record { schema = c .before .before .before .before .before .before .before .before .before .before .before .before .read .ensures .schema; before = omega (arith, c .before .before .before .before .before .before .before .before .before .before .before .before .read .ensures .before, c .before .before .before .before .before .before .before .before .before .before .before .before .before .before .before .before .before .before .before .before .before .before .before .before .before .before .before .before .before .before .before .before .pre .1 .before); nodes = c .before .before .before .before .before .before .before .before .before .before .before .before .read .ensures .nodes; bytes = c .before .before .before .before .before .before .before .before .before .before .before .before .read .ensures .bytes }
+returns-2 c = record { schema = omega (arith, c .before .before .before .before .store .ensures .schema, c .before .before .before .before .before .before .before .before .before .before .before .before .before .before .before .before .before .before .before .before .before .before .before .before .before .before .before .before .before .before .before .before .before .before .before .pre .1 .schema); before = omega (arith, c .before .before .before .before .store .ensures .before, c .before .before .before .before .before .before .before .before .before .before .before .before .before .before .before .before .before .before .before .before .before .before .before .before .before .before .before .before .before .before .before .before .before .before .before .pre .1 .before); nodes = c .before .before .before .before .store .ensures .nodes; bytes = c .before .before .before .before .store .ensures .bytes }
 
 same-length-9 : tie.Need-same-length-9
 same-length-9 c = search needs
@@ -89,6 +89,9 @@ same-length-12 c = search needs
 same-length-13 : tie.Need-same-length-13
 same-length-13 c = search needs
 
+returns-3 : tie.Need-returns-3
+returns-3 c = search needs
+
 same-length-14 : tie.Need-same-length-14
 same-length-14 c = search needs
 
@@ -97,9 +100,6 @@ same-length-15 c = search needs
 
 same-length-16 : tie.Need-same-length-16
 same-length-16 c = search needs
-
-returns-3 : tie.Need-returns-3
-returns-3 c = fits-under _ _ _ _ _ _ (c .before .before .before .before .before .before .before .before .carry .ensures) (c .before .before .before .before .before .before .before .before .before .before .before .before .before .before .before .before .before .before .before .before .before .before .before .before .before .before .before .before .before .pre .1)
 
 same-length-17 : tie.Need-same-length-17
 same-length-17 c = search needs
@@ -117,25 +117,7 @@ same-length-21 : tie.Need-same-length-21
 same-length-21 c = search needs
 
 returns-4 : tie.Need-returns-4
-returns-4 c = search needs
-
-same-length-22 : tie.Need-same-length-22
-same-length-22 c = search needs
-
-same-length-23 : tie.Need-same-length-23
-same-length-23 c = search needs
-
-same-length-24 : tie.Need-same-length-24
-same-length-24 c = search needs
-
-same-length-25 : tie.Need-same-length-25
-same-length-25 c = search needs
-
-same-length-26 : tie.Need-same-length-26
-same-length-26 c = search needs
-
-returns-5 : tie.Need-returns-5
-returns-5 c = search needs
+returns-4 c = fits-under _ _ _ _ _ _ (c .before .before .before .before .before .before .before .before .asked .ensures) (c .before .before .before .before .before .before .before .before .before .before .before .before .before .before .before .before .before .before .before .before .before .before .before .before .before .before .before .before .before .pre .1)
 
 pub request-spec : {M : Type 1} → statement M
 request-spec =
@@ -148,12 +130,12 @@ request-spec =
     part-read-start
     part-read-end
     read-requires
-    carry-requires
-    asked-requires
+    store-requires
     sub-set
     part-set-start
     part-set-end
     set-requires
+    asked-requires
     same-length
     returns
     same-length-2
@@ -169,19 +151,13 @@ request-spec =
     same-length-11
     same-length-12
     same-length-13
+    returns-3
     same-length-14
     same-length-15
     same-length-16
-    returns-3
     same-length-17
     same-length-18
     same-length-19
     same-length-20
     same-length-21
-    returns-4
-    same-length-22
-    same-length-23
-    same-length-24
-    same-length-25
-    same-length-26
-    returns-5)
+    returns-4)
