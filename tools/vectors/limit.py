@@ -39,10 +39,6 @@ def texts():
     out.compact('i: 1 l: 2')
     out.text('(' * (LIMIT + 1), '3 0')
     out.compact('i: 1 l: 2')
-    out.rule('A print of 1,048,577 bytes, which the read refuses 3')
-    out.schema(repeated().bytes())
-    out.older(repeated().bytes())
-    carried(out, OVER_LIMIT, (), [], 'read 3 0')
     return out
 
 
@@ -70,7 +66,8 @@ def wide():
     out.compact((15, 0))
     out.required(15)
     out.access(1, 15)
-    out.rule('A print of 1,048,576 bytes, which is read')
+    out.rule('A print of 1,048,576 bytes, which is read, and one of 1,048,577, which the read refuses 3')
     out.older(repeated().bytes())
+    carried(out, OVER_LIMIT, (), [], 'read 3 0')
     carried(out, AT_LIMIT, [I32, X['i'], 0, 1, 2], ['i: 1'], '0 0 66 262047 * *')
     return out

@@ -1,4 +1,4 @@
-// The rooms that the program holds, on the stack: 7,794,752 bytes of the usual 8 MiB, so it wants an optimized build, which keeps one
+// The rooms that the program holds, on the stack: 7,927,360 bytes of the usual 8 MiB, so it wants an optimized build, which keeps one
 // copy of each. Each `ensures` gives the length, which lending the array as a slice needs.
 ghost use mathlib.Core.Path.{_≡_};
 ghost use lib.ListN.{length};

@@ -1,0 +1,101 @@
+// Standard input, line by line.
+use crate::line;
+use libc::STDIN_FILENO;
+ghost use lib.ListN.{length};
+ghost use Rattle.session.specs.Held.{Held};
+
+// Where the input stands. Of its room the bytes from start to end are read and in no line yet, and the line's room holds length bytes of
+// the line of number count. `is_whole` where that line has ended, `is_long` where it went over its room, and bytes of it were dropped.
+pub(crate) struct Lines {
+    pub(crate) start: usize,
+    pub(crate) end: usize,
+    pub(crate) length: usize,
+    pub(crate) count: usize,
+    pub(crate) is_whole: bool,
+    pub(crate) is_long: bool,
+    pub(crate) is_over: bool,
+}
+
+// Before the first line.
+pub(crate) fn begun() -> Lines
+    ensures { λ r. ⌜ Held r 0 0 ⌝ }
+{
+    Lines {
+        start: 0,
+        end: 0,
+        length: 0,
+        count: 0,
+        is_whole: true,
+        is_long: false,
+        is_over: false,
+    }
+}
+
+// The line after one that has ended, empty yet, and any other line as it stands.
+fn opened(at: Lines) -> Lines
+    requires { ⌜ Held at (at .end) (at .length) ⌝ }
+    ensures { λ r. ⌜ Held r (at .end) (at .length) ⌝ }
+{
+    if !at.is_whole {
+        return at;
+    }
+    Lines {
+        start: at.start,
+        end: at.end,
+        length: 0,
+        count: std::num::wrapping_add_usize(at.count, 1),
+        is_whole: false,
+        is_long: false,
+        is_over: false,
+    }
+}
+
+// Moves the bytes before the next newline from the input's room to the line's, as many as it holds, and passes over the newline.
+fn take(input: &[u8], line: &mut [u8], at: Lines) -> Lines
+    requires { ⌜ Held at (length (now input)) (length (now line)) ⌝ }
+    ensures { λ r. ⌜ Held r (length (now (input .entry))) (length (now (line .entry))) ⌝ }
+{
+    let start = at.start;
+    let end = at.end;
+    let length = at.length;
+    let stop = line::find(input, start, end, b'\n');
+    let n = line::copy(&input[start..stop], &mut line[length..]);
+    Lines {
+        start: line::least(stop + 1, end),
+        end,
+        length: length + n,
+        count: at.count,
+        is_whole: stop < end,
+        is_long: at.is_long || n < stop - start,
+        is_over: false,
+    }
+}
+
+// Reads on, where no line ends in what was read before. The end of the input ends the last line.
+fn refill(input: &mut [u8], at: Lines) -> Lines
+    ensures { λ r. ⌜ Held r (length (now (input .entry))) (at .length) ⌝ }
+{
+    let got = libc::read(STDIN_FILENO, input);
+    let end = io::count(got, input);
+    Lines {
+        start: 0,
+        end,
+        length: at.length,
+        count: at.count,
+        is_whole: end == 0,
+        is_long: at.is_long,
+        is_over: end == 0,
+    }
+}
+
+// Goes on to the end of a line, or as far as is read, and then reads on.
+pub(crate) fn next(input: &mut [u8], line: &mut [u8], at: Lines) -> Lines
+    requires { ⌜ Held at (length (now input)) (length (now line)) ⌝ }
+    ensures { λ r. ⌜ Held r (length (now (input .entry))) (length (now (line .entry))) ⌝ }
+{
+    let taken = take(input, line, opened(at));
+    if taken.is_whole {
+        return taken;
+    }
+    refill(input, taken)
+}

@@ -1,0 +1,109 @@
+// What is written, by way of a buffer: `at` bytes of it are to be written yet, and each function answers how many are then.
+ghost use Prim.Native.Nat.{_<_};
+use libc::STDOUT_FILENO;
+
+// Writes the buffer's first `at` bytes.
+pub(crate) fn flush(out: &[u8], at: usize) {
+    if at <= out.len() {
+        io::write_all(STDOUT_FILENO, &out[..at]);
+    }
+}
+
+// One byte; a full buffer is written first.
+pub(crate) fn byte(out: &mut [u8], at: usize, b: u8) -> usize {
+    if at < out.len() {
+        out[at] = b;
+        return at + 1;
+    }
+    io::write_all(STDOUT_FILENO, out);
+    if 0 < out.len() {
+        out[0] = b;
+        return 1;
+    }
+    0
+}
+
+pub(crate) fn bytes(out: &mut [u8], at: usize, s: &[u8]) -> usize {
+    let mut to = at;
+    let mut i = 0;
+    while i < s.len() {
+        to = byte(out, to, s[i]);
+        i += 1;
+    }
+    to
+}
+
+// A space, and n in decimal.
+pub(crate) fn number(out: &mut [u8], at: usize, n: usize) -> usize {
+    let mut digits = [0u8; 20];
+    let k = io::decimal(n as u64, &mut digits);
+    let to = byte(out, at, b' ');
+    bytes(out, to, &digits[..k])
+}
+
+fn glyph(d: u8) -> u8
+    requires { ⌜ d < 16 ⌝ }
+{
+    if d < 10 { 48 + d } else { 87 + d }
+}
+
+fn hex_byte(out: &mut [u8], at: usize, b: u8) -> usize {
+    let to = byte(out, at, glyph(b / 16));
+    byte(out, to, glyph(b % 16))
+}
+
+// The low byte of x.
+fn low(x: u32) -> u8 {
+    (x % 256) as u8
+}
+
+// Eight hex digits, most significant first.
+fn hex_word(out: &mut [u8], at: usize, w: u32) -> usize {
+    let first = hex_byte(out, at, low(w / 16777216));
+    let second = hex_byte(out, first, low(w / 65536));
+    let third = hex_byte(out, second, low(w / 256));
+    hex_byte(out, third, low(w))
+}
+
+// A space, and the bytes in hex, `-` where there are none.
+pub(crate) fn hex(out: &mut [u8], at: usize, s: &[u8]) -> usize {
+    let mut to = byte(out, at, b' ');
+    if s.len() == 0 {
+        return byte(out, to, b'-');
+    }
+    let mut i = 0;
+    while i < s.len() {
+        to = hex_byte(out, to, s[i]);
+        i += 1;
+    }
+    to
+}
+
+// A space, and the words in hex, `-` where there are none.
+pub(crate) fn hex_words(out: &mut [u8], at: usize, s: &[u32]) -> usize {
+    let mut to = byte(out, at, b' ');
+    if s.len() == 0 {
+        return byte(out, to, b'-');
+    }
+    let mut i = 0;
+    while i < s.len() {
+        to = hex_word(out, to, s[i]);
+        i += 1;
+    }
+    to
+}
+
+// The line that ends an answer: whether all that was to be left alone was.
+pub(crate) fn kept(out: &mut [u8], at: usize, is_kept: bool) -> usize {
+    if is_kept {
+        return bytes(out, at, b" kept\n");
+    }
+    bytes(out, at, b" touched\n")
+}
+
+// The answer to a line that is no request: its number, counted from 1.
+pub(crate) fn no_request(out: &mut [u8], at: usize, line: usize) -> usize {
+    let mark = byte(out, at, b'?');
+    let to = number(out, mark, line);
+    byte(out, to, b'\n')
+}
