@@ -13,3 +13,4 @@ pub mod Loop
 pub mod Goes
 pub mod Forest
 pub mod Canon
+pub mod Once

@@ -2,3 +2,4 @@
 pub mod Ends
 pub mod Tables
 pub mod Prints
+pub mod Once
