@@ -1,5 +1,7 @@
 // The acceptance rule for one record after another: names, key types, types and references, zero bits.
 use definitions::Field;
+use definitions::kinds;
+use definitions::labels;
 use records::FIELD;
 use records::Layout;
 use records::VALUE;
@@ -19,17 +21,6 @@ ghost use lib.ListN.{length};
 ghost use Rattle.definitions.specs.Basics as basic;
 ghost use Rattle.definitions.specs.Image as spec;
 ghost use Rattle.records.specs.Known.{Placed};
-
-// Labels and types that the rule names: a map's label, the last type of a key, the last with no reference, and the two with one.
-const MAP: u8 = 3;
-
-const LAST_KEY: u8 = 6;
-
-const LAST_PLAIN: u8 = 7;
-
-const ENUM: u8 = 8;
-
-const MESSAGE: u8 = 9;
 
 // ---- names: a letter or `_`, then letters, digits, `_`
 
@@ -99,17 +90,17 @@ fn name_good(image: &[u8], layout: Layout, start: usize, count: usize) -> bool
 
 // ---- fields and values
 
-// The key type is 1 to 6 for a map, else 0.
+// The key type is 1 to 6, i32 to string, for a map, else 0.
 fn key_good(field: Field) -> bool
     ensures { λ r. ⌜ r ≡ spec.keyGood field ⌝ }
 {
-    if field.label != MAP {
+    if field.label != labels::MAP {
         return field.key == 0;
     }
-    if field.key < 1 {
+    if field.key < kinds::I32 {
         return false;
     }
-    field.key <= LAST_KEY
+    field.key <= kinds::STRING
 }
 
 // Types 1 to 9; the reference is an enum or message that exists for types 8 and 9, else 0.
@@ -117,16 +108,16 @@ fn type_good(image: &[u8], field: Field) -> bool
     requires { ⌜ 8 ≤ length (now image) ⌝ }
     ensures { λ r. ⌜ r ≡ spec.typeGood (now (image .entry)) field ⌝ }
 {
-    if field.kind == ENUM {
+    if field.kind == kinds::ENUM {
         return field.reference < enum_count(image);
     }
-    if field.kind == MESSAGE {
+    if field.kind == kinds::MESSAGE {
         return field.reference < message_count(image);
     }
-    if field.kind < 1 {
+    if field.kind < kinds::I32 {
         return false;
     }
-    if LAST_PLAIN < field.kind {
+    if kinds::BYTES < field.kind {
         return false;
     }
     field.reference == 0
