@@ -22,11 +22,11 @@ use Rattle.definitions.specs.Loop.{Out, done, refused, Stand}
 use Rattle.definitions.specs.Reading.{moved, nested, opens, closerOf, opened, afterName, field, closed, fields, under, readBody}
 use Rattle.laws.proofs.Reach.{reach}
 use Rattle.laws.proofs.Goes.{Went, any, readBody-goes}
-use Rattle.scalars.specs.declared.Answer.{Answer}
-use Rattle.scalars.specs.declared.Answer.the-variants as answer
-use Rattle.scalars.specs.Answers.{answerOf, putAt, Fair, Wrote, Answers, closerFor, standing}
-use Rattle.scalars.proofs.Stores.{parent-put}
-use Rattle.scalars.proofs.Returns.{no-answers, done-answers, answer-done, answer-no, wrote-done}
+use Rattle.leaves.specs.declared.Answer.{Answer}
+use Rattle.leaves.specs.declared.Answer.the-variants as answer
+use Rattle.leaves.specs.Answers.{answerOf, putAt, Fair, Wrote, Answers, closerFor, standing}
+use Rattle.leaves.proofs.Stores.{parent-put}
+use Rattle.leaves.proofs.Returns.{no-answers, done-answers, answer-done, answer-no, wrote-done}
 
 -- a closer looks at the spot only as it is moved
 pub closed-at : (deep : Bool) (image : List ℕ) (c : Scope) (at : Place) (n : ℕ) (q : Spot) (key value : Bool)

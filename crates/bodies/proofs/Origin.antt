@@ -7,7 +7,7 @@ use Rattle.definitions.specs.declared.Spot.{Spot}
 use Rattle.definitions.specs.Refusals.{mostText}
 use Rattle.definitions.specs.Image.{messageCount}
 use Rattle.definitions.specs.Reading.{rootWant}
-use Rattle.scalars.specs.Answers.{Fair, Fits}
+use Rattle.leaves.specs.Answers.{Fair, Fits}
 
 abbrev pub origin : Spot
 origin = record { at = 0; node = 1; byte = 0 }

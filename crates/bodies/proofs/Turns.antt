@@ -21,10 +21,10 @@ use Rattle.definitions.specs.Loop.{Out, done, refused, Stand, Turn, stop, more,
 use Rattle.definitions.specs.Reading.{moved, field, closed, again, noted, turnOf, item, start, fields, under, readBody}
 use Rattle.laws.proofs.Reach.{reach}
 use Rattle.laws.proofs.Goes.{Went, Goes, Closing, any, under-goes, field-goes, item-goes, rest-goes, rest-is}
-use Rattle.scalars.specs.declared.Answer.{Answer}
-use Rattle.scalars.specs.declared.Answer.the-variants as answer
-use Rattle.scalars.specs.Answers.{answerOf, Fair, Wrote, Answers, AnswersHere, standing, KeyNoted, ValueNoted}
-use Rattle.scalars.proofs.Returns.{no-answers, answers-by, answers-from, answer-done, answer-no, wrote-done}
+use Rattle.leaves.specs.declared.Answer.{Answer}
+use Rattle.leaves.specs.declared.Answer.the-variants as answer
+use Rattle.leaves.specs.Answers.{answerOf, Fair, Wrote, Answers, AnswersHere, standing, KeyNoted, ValueNoted}
+use Rattle.leaves.proofs.Returns.{no-answers, answers-by, answers-from, answer-done, answer-no, wrote-done}
 use Rattle.entries.proofs.Joins.{Laid, ahead-none, ahead-ahead, laid-both, then-stored, join}
 
 noted-spot : (c : Scope) (i : ℕ) (h : Stand) (p : Spot) → noted c i h p .spot ≡ p

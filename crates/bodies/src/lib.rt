@@ -12,13 +12,13 @@ use entries::has_key;
 use entries::has_value;
 use entries::is_again;
 use entries::want_in;
+use leaves::Answer;
+use leaves::bad;
+use leaves::put_body;
 use lexer::Cursor;
 use lexer::Step;
 use records::Found;
 use records::Layout;
-use scalars::Answer;
-use scalars::bad;
-use scalars::put_body;
 use scalars::read_colon;
 ghost use mathlib.Core.Path.{_≡_};
 ghost use mathlib.Core.Bool.{true};
@@ -28,7 +28,7 @@ ghost use Rattle.definitions.specs.Refusals.{mostText};
 ghost use Rattle.definitions.specs.Scope.{want, within, nests};
 ghost use Rattle.definitions.specs.Reading.{field, under, readBody, rootWant};
 ghost use Rattle.records.specs.Known.{Known};
-ghost use Rattle.scalars.specs.Answers.{Fair, Lent, Fits, Holds, Answers, Inside, closerFor};
+ghost use Rattle.leaves.specs.Answers.{Fair, Lent, Fits, Holds, Answers, Inside, closerFor};
 ghost use Rattle.definitions.specs.Image.{messageCount};
 
 // A field of a message or of an entry, after its name.

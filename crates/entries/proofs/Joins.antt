@@ -17,11 +17,11 @@ use Rattle.definitions.specs.Loop.{Out, done, refused, ahead}
 use Rattle.definitions.specs.Reading.{leaf, default, defaultValue, unless, joined, closed}
 use Rattle.laws.proofs.Reach.{by-test}
 use Rattle.laws.proofs.Goes.{default-goes}
-use Rattle.scalars.specs.declared.Answer.{Answer}
-use Rattle.scalars.specs.declared.Answer.the-variants as answer
-use Rattle.scalars.specs.Answers.{answerOf, Wrote, Answers, AnswersHere, standing}
+use Rattle.leaves.specs.declared.Answer.{Answer}
+use Rattle.leaves.specs.declared.Answer.the-variants as answer
+use Rattle.leaves.specs.Answers.{answerOf, Wrote, Answers, AnswersHere, standing}
 use Rattle.laws.proofs.Stores.{sets-append}
-use Rattle.scalars.proofs.Returns.{answer-done, answer-no, no-answers, done-answers, wrote-done, answers-by}
+use Rattle.leaves.proofs.Returns.{answer-done, answer-no, no-answers, done-answers, wrote-done, answers-by}
 use Rattle.entries.proofs.Wants.{within-entry, within-message}
 
 -- five words a node, and each byte in the pool

@@ -7,7 +7,7 @@ use Rattle.definitions.specs.declared.Spot.{Spot}
 use Rattle.definitions.specs.declared.Want.{Want}
 use Rattle.definitions.specs.Scope.{within, mapEntry}
 use Rattle.definitions.specs.Reading.{noted}
-use Rattle.scalars.specs.Answers.{standing}
+use Rattle.leaves.specs.Answers.{standing}
 use Rattle.entries.proofs.Wants.{within-entry, within-message}
 
 or-true : (a : Bool) → true ≡ (a || true)

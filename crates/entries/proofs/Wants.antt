@@ -16,7 +16,7 @@ use Rattle.laws.proofs.Reach.{by-test}
 use Rattle.laws.proofs.Lists.{find-some, and-parts}
 use Rattle.records.proofs.Room.{fieldCount-lt}
 use Rattle.records.proofs.Accepted.{Good, message-inside, enum-inside, enum-filled, field-has, reference-enum, reference-message, kind-range, key-range}
-use Rattle.scalars.specs.Answers.{Fits, Inside}
+use Rattle.leaves.specs.Answers.{Fits, Inside}
 
 -- ---- scopes
 

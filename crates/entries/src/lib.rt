@@ -5,11 +5,11 @@ use definitions::Want;
 use definitions::kinds;
 use definitions::labels;
 use definitions::refusals;
+use leaves::Answer;
+use leaves::put_number;
+use leaves::widened;
 use records::Found;
 use records::Layout;
-use scalars::Answer;
-use scalars::put_number;
-use scalars::widened;
 ghost use mathlib.Core.Path.{_≡_};
 ghost use mathlib.Core.Bool.{true, _&&_, _||_};
 ghost use lib.Dec.{eqb};
@@ -18,7 +18,7 @@ ghost use Rattle.definitions.specs.Refusals.{mostText};
 ghost use Rattle.definitions.specs.Scope.{want, within, findIn, nests, string, byteString, body};
 ghost use Rattle.definitions.specs.Reading.{default, unless, closed, again};
 ghost use Rattle.records.specs.Known.{Known, foundOf};
-ghost use Rattle.scalars.specs.Answers.{Fits, Holds, AnswersHere, Inside, standing, KeyNoted, ValueNoted};
+ghost use Rattle.leaves.specs.Answers.{Fits, Holds, AnswersHere, Inside, standing, KeyNoted, ValueNoted};
 
 // The field of that name in a message, or in an entry of a map: `key` or `value`.
 pub fn find_in(image: &[u8], layout: Layout, w: Want, guess: usize, name: &[u8]) -> Found

@@ -15,15 +15,15 @@ use Rattle.definitions.specs.Nodes.{words}
 use Rattle.definitions.specs.Loop.{Out, done, refused}
 use Rattle.definitions.specs.Reading.{rootWant, readBody, nested, whole, nodeRoom, fitted}
 use Rattle.laws.proofs.Goes.{Went, plain, readBody-goes}
-use Rattle.scalars.specs.declared.Answer.{Answer}
-use Rattle.scalars.specs.declared.Answer.the-variants as answer
+use Rattle.leaves.specs.declared.Answer.{Answer}
+use Rattle.leaves.specs.declared.Answer.the-variants as answer
 use Rattle.parse.specs.declared.Read.{Read}
 use Rattle.parse.specs.declared.Read.the-variants as read
-use Rattle.scalars.specs.Answers.{answerOf, putAt, Fair, Fits, Answers}
+use Rattle.leaves.specs.Answers.{answerOf, putAt, Fair, Fits, Answers}
 use Rattle.parse.specs.Whole.{readOf, fittedRead, fittedNodes, fittedPool, refusalOf}
 use Rattle.bodies.proofs.Origin.{origin}
-use Rattle.scalars.proofs.Stores.{parent-put}
-use Rattle.scalars.proofs.Returns.{answer-done, answer-no, wrote-done}
+use Rattle.leaves.proofs.Stores.{parent-put}
+use Rattle.leaves.proofs.Returns.{answer-done, answer-no, wrote-done}
 
 -- a lent part of length 0 holds nothing
 pub empty-part : (p e : List ℕ) → length p ≡ 0 → p ++ e ≡ e

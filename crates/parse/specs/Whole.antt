@@ -6,8 +6,8 @@ use Rattle.definitions.specs.Refusals.{given, denied}
 use Rattle.definitions.specs.Refusals as refusals
 use Rattle.definitions.specs.Calls.{stored}
 use Rattle.definitions.specs.Reading.{Made, whole, fitted, wordsOf, bytesOf}
-use Rattle.scalars.specs.declared.Answer.{Answer}
-use Rattle.scalars.specs.declared.Answer.the-variants as answer
+use Rattle.leaves.specs.declared.Answer.{Answer}
+use Rattle.leaves.specs.declared.Answer.the-variants as answer
 use Rattle.parse.specs.declared.Read.{Read}
 use Rattle.parse.specs.declared.Read.the-variants as read
 

@@ -2,50 +2,26 @@
 // Words and bytes are stored where there is room for them, so over empty parts of the table and the pool the same functions only
 // count and find the first fault.
 mod names;
-mod numbers;
 mod runs;
-mod store;
 
 use crate::names::read_bool;
 use crate::names::read_enum;
-use crate::numbers::read_signed;
-use crate::numbers::read_unsigned;
 use crate::runs::read_string;
-use definitions::Place;
 use definitions::Spot;
 use definitions::Want;
 use definitions::kinds;
 use definitions::refusals;
 use definitions::tokens;
+use leaves::Answer;
+use leaves::bad;
 use lexer::Cursor;
 use lexer::Step;
-pub use names::widened;
+use numbers::read_signed;
+use numbers::read_unsigned;
 use records::Layout;
-pub use store::put_body;
-pub use store::put_number;
-ghost use mathlib.Core.Path.{_≡_};
 ghost use Rattle.definitions.specs.Reading.{scalar, afterName};
 ghost use Rattle.records.specs.Known.{Known};
-ghost use Rattle.scalars.specs.Answers.{badOf, Fair, Lent, Fits, Holds, Answers};
-
-// What reading gives: the spot after, or the first fault with its place.
-pub enum Answer {
-    Done(Spot),
-    No(u8, Place),
-}
-
-// A bad token's refusal, or that of a token that is not expected.
-pub fn bad(st: Step) -> Answer
-    ensures { λ r. ⌜ r ≡ badOf st ⌝ }
-{
-    match st {
-        Step::Bad(p) => Answer::No(refusals::BAD_TOKEN, p),
-        Step::Token(t, _) => {
-            let place = t.start;
-            Answer::No(refusals::OTHER_EXPECTED, place)
-        }
-    }
-}
+ghost use Rattle.leaves.specs.Answers.{Fair, Lent, Fits, Holds, Answers};
 
 // A value of a type that is no message, from behind its colon on.
 fn read_scalar(

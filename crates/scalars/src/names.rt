@@ -1,22 +1,21 @@
 // Values that are names: bool and enum.
-use crate::Answer;
-use crate::bad;
-use crate::store::put_number;
 use definitions::Spot;
 use definitions::Want;
 use definitions::refusals;
 use definitions::tokens;
+use leaves::Answer;
+use leaves::bad;
+use leaves::put_number;
+use leaves::widened;
 use lexer::Cursor;
 use lexer::Step;
 use records::Found;
 use records::Layout;
 ghost use mathlib.Core.Path.{_≡_};
 ghost use mathlib.Core.Bool.{true};
-ghost use Prim.Native.Nat.{_<_, _+_};
-ghost use Rattle.definitions.specs.Nodes.{widen};
 ghost use Rattle.definitions.specs.Reading.{boolValue, enumValue};
 ghost use Rattle.records.specs.Known.{Known};
-ghost use Rattle.scalars.specs.Answers.{Fair, Ready, Fits, Holds, AnswersHere};
+ghost use Rattle.leaves.specs.Answers.{Fair, Ready, Fits, Holds, AnswersHere};
 
 // bool: `true` or `false`.
 pub(crate) fn read_bool(s: &[u8], table: &[u8; 256], w: Want, q: Spot, nodes: &mut [u32]) -> Answer
@@ -40,17 +39,6 @@ pub(crate) fn read_bool(s: &[u8], table: &[u8; 256], w: Want, q: Spot, nodes: &m
         return put_number(w, q, to, 0, nodes);
     }
     Answer::No(refusals::NOT_BOOL, place)
-}
-
-// 32 bits sign-extended to 64.
-pub fn widened(v: u32) -> u64
-    ensures { λ r. ⌜ r ≡ widen v ⌝ }
-{
-    if v < 2147483648 {
-        v as u64
-    } else {
-        v as u64 + 18446744069414584320
-    }
 }
 
 // An enum: the name of one of its values.

@@ -1,35 +1,19 @@
 // string and bytes.
-use crate::Answer;
-use crate::bad;
-use crate::store::put;
 use definitions::Node;
 use definitions::Spot;
 use definitions::Want;
-use definitions::kinds;
 use definitions::refusals;
 use definitions::tokens;
+use leaves::Answer;
+use leaves::bad;
+use leaves::is_broken;
+use leaves::put;
 use lexer::Cursor;
 use lexer::Step;
 use strings::Decoded;
-ghost use mathlib.Core.Path.{_≡_};
-ghost use mathlib.Core.Bool.{_&&_, not};
-ghost use lib.Dec.{eqb};
 ghost use Rattle.definitions.specs.Scope.{string};
 ghost use Rattle.definitions.specs.Reading.{stringValue};
-ghost use Rattle.scalars.specs.Answers.{Fair, Lent, Holds, Answers};
-
-// A string that is not UTF-8; bytes may be anything.
-fn is_broken(kind: u8, utf8: bool) -> bool
-    ensures { λ r. ⌜ r ≡ (eqb kind string && not utf8) ⌝ }
-{
-    if kind != kinds::STRING {
-        return false;
-    }
-    if utf8 {
-        return false;
-    }
-    true
-}
+ghost use Rattle.leaves.specs.Answers.{Fair, Lent, Holds, Answers};
 
 // string, bytes: a string, its escapes decoded into the pool.
 pub(crate) fn read_string(

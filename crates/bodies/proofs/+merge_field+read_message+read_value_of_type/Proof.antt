@@ -10,9 +10,9 @@ use lib.ListN.{length}
 use Rattle.definitions.specs.declared.Want.{Want}
 use Rattle.definitions.specs.Reading.{field, under}
 use Rattle.laws.proofs.Reach.{reach}
-use Rattle.scalars.specs.Answers.{standing}
-use Rattle.scalars.proofs.Returns.{no-answers, answers-by, answers-from}
-use Rattle.scalars.proofs.Steps.{scanned, scanned-bad, bad-is, reached, nothing-is, found-is}
+use Rattle.leaves.specs.Answers.{standing}
+use Rattle.leaves.proofs.Returns.{no-answers, answers-by, answers-from}
+use Rattle.leaves.proofs.Steps.{scanned, scanned-bad, bad-is, reached, nothing-is, found-is}
 use Rattle.entries.proofs.Wants.{want-fits, want-field, found-inside}
 use Rattle.bodies.proofs.Turns.{Rest, begins, ends, rest-bad, rest-closed, rest-other, rest-unknown, rest-twice, falls as name-falls, fair-after, field-no, further, next-inside, goes-on, stands, again-at}
 use Rattle.bodies.proofs.Nested.{closed-at, nests-high, field-plain, field-bad, field-other, field-deep, child-falls, child-fair, nested-no, nested-node, nested-put}
@@ -29,14 +29,14 @@ use Rattle.bodies.proofs.read_value_of_type.Reads as read-value-of-type
 use Rattle.bodies.proofs.read_value_of_type.Kinds as read-value-of-type-kinds
 use Rattle.bodies.proofs.+merge_field+read_message+read_value_of_type.Lts-read_value_of_type as read-value-of-type-lts
 use Rattle.lexer.proofs.tokens.Cursor.next_from.Reads as next-from-reads
-use Rattle.scalars.proofs.bad.Reads as bad-reads
+use Rattle.leaves.proofs.bad.Reads as bad-reads
 use Rattle.entries.proofs.close_body.Reads as close-body-reads
 use Rattle.bodies.proofs.closer_of.Reads as closer-of-reads
 use Rattle.entries.proofs.find_in.Reads as find-in-reads
 use Rattle.entries.proofs.has_key.Reads as has-key-reads
 use Rattle.entries.proofs.has_value.Reads as has-value-reads
 use Rattle.entries.proofs.is_again.Reads as is-again-reads
-use Rattle.scalars.proofs.put_body.Reads as put-body-reads
+use Rattle.leaves.proofs.put_body.Reads as put-body-reads
 use Rattle.scalars.proofs.read_colon.Reads as read-colon-reads
 use Rattle.entries.proofs.want_in.Reads as want-in-reads
 use Rattle.bodies.proofs.+merge_field+read_message+read_value_of_type.{statement}

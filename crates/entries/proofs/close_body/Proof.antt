@@ -3,7 +3,7 @@ use mathlib.Core.Path.{_≡_, sym, _∙_, refl}
 use denote.Ref.{now}
 use mathlib.Core.List.{[]}
 use native.Mathlib.Omega.{arith}
-use Rattle.scalars.proofs.Returns.{done-answers}
+use Rattle.leaves.proofs.Returns.{done-answers}
 use Rattle.entries.proofs.Wants.{want-fits, want-field, entry-inside, nests-entry}
 use Rattle.entries.proofs.Joins.{closed-message, key-no, key-next, value-there, value-deep, value-made}
 use borrow.Author.Needs.{needs}

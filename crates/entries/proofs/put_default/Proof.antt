@@ -2,16 +2,16 @@
 use mathlib.Core.Path.{_≡_, sym, _∙_, refl}
 use native.Mathlib.Omega.{arith}
 use Rattle.records.proofs.Accepted.{known-placed, enum-inside, enum-filled}
-use Rattle.scalars.proofs.Returns.{answers-by, empty-run}
-use Rattle.scalars.proofs.Steps.{default-run, default-enum, default-zero}
+use Rattle.leaves.proofs.Returns.{answers-by, empty-run}
+use Rattle.leaves.proofs.Steps.{default-run, default-enum, default-zero}
 use borrow.Author.Needs.{needs}
 use Rattle.entries.proofs.put_default.Statement.{statement}
 use Rattle.entries.proofs.put_default.Tie as tie
 use Rattle.entries.proofs.put_default.Reads as reads
 use Rattle.entries.proofs.put_default.Lts as lts
 use Rattle.entries.proofs.is_run.Reads as is-run-reads
-use Rattle.scalars.proofs.put_number.Reads as put-number-reads
-use Rattle.scalars.proofs.widened.Reads as widened-reads
+use Rattle.leaves.proofs.put_number.Reads as put-number-reads
+use Rattle.leaves.proofs.widened.Reads as widened-reads
 use Rattle.records.proofs.enumeration.Reads as enumeration-reads
 use Rattle.records.proofs.member.Reads as member-reads
 

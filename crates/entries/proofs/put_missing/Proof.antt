@@ -1,7 +1,7 @@
 -- `entries::put_missing` meets its contract.
 use mathlib.Core.List.{[]}
 use mathlib.Core.Path.{_≡_, sym, _∙_, refl}
-use Rattle.scalars.proofs.Returns.{done-answers, answers-by}
+use Rattle.leaves.proofs.Returns.{done-answers, answers-by}
 use borrow.Author.Needs.{needs}
 use Rattle.entries.proofs.put_missing.Statement.{statement}
 use Rattle.entries.proofs.put_missing.Tie as tie

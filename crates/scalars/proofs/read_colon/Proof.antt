@@ -1,7 +1,7 @@
 -- `scalars::read_colon` meets its contract: a bad token, no colon, a value.
 use mathlib.Core.Path.{_≡_, sym, _∙_, refl}
-use Rattle.scalars.proofs.Returns.{no-answers, answers-by, answers-from}
-use Rattle.scalars.proofs.Steps.{scanned, scanned-bad, bad-is, other-is, colon-bad, colon-other, colon-on, moved-fair}
+use Rattle.leaves.proofs.Returns.{no-answers, answers-by, answers-from}
+use Rattle.leaves.proofs.Steps.{scanned, scanned-bad, bad-is, other-is, colon-bad, colon-other, colon-on, moved-fair}
 use borrow.Author.Needs.{needs}
 use Rattle.scalars.proofs.read_colon.Statement.{statement}
 use Rattle.scalars.proofs.read_colon.Tie as tie

@@ -1,6 +1,6 @@
 -- `scalars::read_scalar` meets its contract: one reader for each kind of value.
-use Rattle.scalars.proofs.Returns.{answers-by}
-use Rattle.scalars.proofs.Steps.{scalar-signed, scalar-unsigned, scalar-bool, scalar-enum, scalar-string}
+use Rattle.leaves.proofs.Returns.{answers-by}
+use Rattle.leaves.proofs.Steps.{scalar-signed, scalar-unsigned, scalar-bool, scalar-enum, scalar-string}
 use borrow.Author.Needs.{needs}
 use Rattle.scalars.proofs.read_scalar.Statement.{statement}
 use Rattle.scalars.proofs.read_scalar.Tie as tie

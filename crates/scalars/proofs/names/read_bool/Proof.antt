@@ -1,16 +1,16 @@
 -- `scalars::names::read_bool` meets its contract: a bad token, no name, `true`, `false`, another name.
 use mathlib.Core.Path.{sym, _∙_, refl}
 use native.Mathlib.Omega.{arith}
-use Rattle.scalars.proofs.Returns.{no-answers, answers-by}
-use Rattle.scalars.proofs.Steps.{scanned, scanned-bad, bad-is, reached, bool-bad, bool-other, bool-true, bool-false, bool-neither}
+use Rattle.leaves.proofs.Returns.{no-answers, answers-by}
+use Rattle.leaves.proofs.Steps.{scanned, scanned-bad, bad-is, reached, bool-bad, bool-other, bool-true, bool-false, bool-neither}
 use borrow.Author.Needs.{needs}
 use Rattle.scalars.proofs.names.read_bool.Statement.{statement}
 use Rattle.scalars.proofs.names.read_bool.Tie as tie
 use Rattle.scalars.proofs.names.read_bool.Reads as reads
 use Rattle.scalars.proofs.names.read_bool.Lts as lts
-use Rattle.scalars.proofs.bad.Reads as bad-reads
+use Rattle.leaves.proofs.bad.Reads as bad-reads
 use Rattle.lexer.proofs.tokens.Cursor.next_from.Reads as next-from-reads
-use Rattle.scalars.proofs.store.put_number.Reads as put-number-reads
+use Rattle.leaves.proofs.put_number.Reads as put-number-reads
 use Rattle.records.proofs.same.Reads as same-reads
 
 next-from-requires : tie.Need-next-from-requires

@@ -2,17 +2,17 @@
 use mathlib.Core.Path.{sym, _∙_, refl}
 use native.Mathlib.Omega.{arith}
 use Rattle.records.proofs.Accepted.{known-placed, member-found}
-use Rattle.scalars.proofs.Returns.{no-answers, answers-by}
-use Rattle.scalars.proofs.Steps.{scanned, scanned-bad, bad-is, reached, nothing-is, found-is, enum-bad, enum-other, enum-unknown, enum-known}
+use Rattle.leaves.proofs.Returns.{no-answers, answers-by}
+use Rattle.leaves.proofs.Steps.{scanned, scanned-bad, bad-is, reached, nothing-is, found-is, enum-bad, enum-other, enum-unknown, enum-known}
 use borrow.Author.Needs.{needs}
 use Rattle.scalars.proofs.names.read_enum.Statement.{statement}
 use Rattle.scalars.proofs.names.read_enum.Tie as tie
 use Rattle.scalars.proofs.names.read_enum.Reads as reads
 use Rattle.scalars.proofs.names.read_enum.Lts as lts
-use Rattle.scalars.proofs.bad.Reads as bad-reads
+use Rattle.leaves.proofs.bad.Reads as bad-reads
 use Rattle.lexer.proofs.tokens.Cursor.next_from.Reads as next-from-reads
-use Rattle.scalars.proofs.store.put_number.Reads as put-number-reads
-use Rattle.scalars.proofs.names.widened.Reads as widened-reads
+use Rattle.leaves.proofs.put_number.Reads as put-number-reads
+use Rattle.leaves.proofs.widened.Reads as widened-reads
 use Rattle.lookup.proofs.find_member.Reads as find-member-reads
 use Rattle.records.proofs.member.Reads as member-reads
 

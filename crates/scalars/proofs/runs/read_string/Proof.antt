@@ -7,8 +7,8 @@ use mathlib.Core.Path.{_≡_, sym, _∙_, refl}
 use native.Mathlib.Omega.{arith}
 use Rattle.laws.proofs.Reach.{reach}
 use Rattle.laws.proofs.Goes.{part-le}
-use Rattle.scalars.proofs.Returns.{no-answers, answers-by, run-answers}
-use Rattle.scalars.proofs.Steps.{scanned, scanned-bad, bad-is, undecoded-is, decoded-is, string-bad, string-other, string-undecoded, string-broken, string-fine, string-room, broken-by}
+use Rattle.leaves.proofs.Returns.{no-answers, answers-by, run-answers}
+use Rattle.leaves.proofs.Steps.{scanned, scanned-bad, bad-is, undecoded-is, decoded-is, string-bad, string-other, string-undecoded, string-broken, string-fine, string-room, broken-by}
 use Rattle.strings.proofs.Decoding.{decodedFront-all}
 use borrow.Author.Needs.{needs}
 use Rattle.scalars.proofs.runs.read_string.Statement.{statement}
