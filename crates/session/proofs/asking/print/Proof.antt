@@ -6,7 +6,7 @@ use Rattle.session.proofs.asking.print.Statement.{statement}
 use Rattle.session.proofs.asking.print.Tie as tie
 
 after-letter-requires : tie.Need-after-letter-requires
-after-letter-requires c κs = search needs
+after-letter-requires c κs = tt
 
 enum-known-n : tie.Need-enum-known-n
 enum-known-n c = search needs
@@ -15,31 +15,31 @@ enum-told : tie.Need-enum-told
 enum-told c = search needs
 
 none-requires : tie.Need-none-requires
-none-requires c κs = search needs
+none-requires c κs = tt
 
 same-length : tie.Need-same-length
 same-length c = search needs
 
 returns : tie.Need-returns
-returns c = search needs
+returns c = tt
 
 none-requires-2 : tie.Need-none-requires-2
-none-requires-2 c κs = search needs
+none-requires-2 c κs = tt
 
 same-length-2 : tie.Need-same-length-2
 same-length-2 c = search needs
 
 returns-2 : tie.Need-returns-2
-returns-2 c = search needs
+returns-2 c = tt
 
 front-requires : tie.Need-front-requires
-front-requires c κs = search needs
+front-requires c κs = tt
 
 front-words-requires : tie.Need-front-words-requires
-front-words-requires c κs = search needs
+front-words-requires c κs = tt
 
 front-requires-2 : tie.Need-front-requires-2
-front-requires-2 c κs = search needs
+front-requires-2 c κs = tt
 
 slice-relend-prefix-print-in : tie.Need-slice-relend-prefix-print-in
 slice-relend-prefix-print-in c = search needs
@@ -48,16 +48,16 @@ slice-aggregate-print-in : tie.Need-slice-aggregate-print-in
 slice-aggregate-print-in c = sym (length-take-le _ _ (search needs))
 
 print-in-requires : tie.Need-print-in-requires
-print-in-requires c κs = search needs
+print-in-requires c κs = tt
 
 done-requires : tie.Need-done-requires
-done-requires c κs = search needs
+done-requires c κs = tt
 
 same-length-3 : tie.Need-same-length-3
 same-length-3 c = search needs
 
 returns-3 : tie.Need-returns-3
-returns-3 c = search needs
+returns-3 c = tt
 
 pub print-spec : {M : Type 1} → statement M
 print-spec =

@@ -6,10 +6,10 @@ use Rattle.session.proofs.reading.read.Statement.{statement}
 use Rattle.session.proofs.reading.read.Tie as tie
 
 least-requires : tie.Need-least-requires
-least-requires c κs = search needs
+least-requires c κs = tt
 
 least-requires-2 : tie.Need-least-requires-2
-least-requires-2 c κs = search needs
+least-requires-2 c κs = tt
 
 sub-leading : tie.Need-sub-leading
 sub-leading c = search needs
@@ -21,7 +21,7 @@ part-leading-end : tie.Need-part-leading-end
 part-leading-end c = search needs
 
 leading-requires : tie.Need-leading-requires
-leading-requires c κs = search needs
+leading-requires c κs = tt
 
 add-start : tie.Need-add-start
 add-start c = search needs
@@ -36,28 +36,28 @@ part-leading-end-2 : tie.Need-part-leading-end-2
 part-leading-end-2 c = search needs
 
 leading-requires-2 : tie.Need-leading-requires-2
-leading-requires-2 c κs = search needs
+leading-requires-2 c κs = tt
 
 add-text : tie.Need-add-text
 add-text c = search needs
 
 none-requires : tie.Need-none-requires
-none-requires c κs = search needs
+none-requires c κs = tt
 
 same-length : tie.Need-same-length
 same-length c = search needs
 
 returns : tie.Need-returns
-returns c = search needs
+returns c = tt
 
 none-requires-2 : tie.Need-none-requires-2
-none-requires-2 c κs = search needs
+none-requires-2 c κs = tt
 
 same-length-2 : tie.Need-same-length-2
 same-length-2 c = search needs
 
 returns-2 : tie.Need-returns-2
-returns-2 c = search needs
+returns-2 c = tt
 
 sub-read-hex : tie.Need-sub-read-hex
 sub-read-hex c = search needs
@@ -81,10 +81,10 @@ slice-aggregate-read-hex-2 : tie.Need-slice-aggregate-read-hex-2
 slice-aggregate-read-hex-2 c = sym (length-take-le _ _ (search needs))
 
 read-hex-requires : tie.Need-read-hex-requires
-read-hex-requires c κs = search needs
+read-hex-requires c κs = tt
 
 store-requires : tie.Need-store-requires
-store-requires c κs = search needs
+store-requires c κs = tt
 
 same-length-3 : tie.Need-same-length-3
 same-length-3 c = search needs
@@ -96,7 +96,7 @@ same-length-5 : tie.Need-same-length-5
 same-length-5 c = search needs
 
 returns-3 : tie.Need-returns-3
-returns-3 c = search needs
+returns-3 c = tt
 
 pub read-spec : {M : Type 1} → statement M
 read-spec =
