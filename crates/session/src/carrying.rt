@@ -13,9 +13,9 @@ use crate::state::State;
 use crate::text;
 use carry::Carried;
 
-// `STYLE ROOM WORDS BYTES`, where a number that is missing is over every room's length.
+// `STYLE ROOM WORDS BYTES`. Where a number is missing, or the style is neither 0 nor 1, a size is over every room's length.
 struct Asked {
-    style: usize,
+    is_pretty: bool,
     room: usize,
     words: usize,
     bytes: usize,
@@ -36,8 +36,8 @@ fn sizes(line: &[u8], end: usize) -> Asked {
         bytes = n;
     }
     Asked {
-        style: style.n,
-        room: room.n,
+        is_pretty: style.n == 1,
+        room: if style.n > 1 { usize::MAX } else { room.n },
         words: words.n,
         bytes,
     }
@@ -147,9 +147,6 @@ pub(crate) fn carry(
     let room = asked.room;
     let count = asked.words;
     let used = asked.bytes;
-    if asked.style > 1 {
-        return state::none(state);
-    }
     if room > line.len() {
         return state::none(state);
     }
@@ -160,7 +157,7 @@ pub(crate) fn carry(
         return state::none(state);
     }
     let at = carry_in(
-        asked.style == 1,
+        asked.is_pretty,
         buf,
         image,
         older,

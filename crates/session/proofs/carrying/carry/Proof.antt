@@ -35,15 +35,6 @@ same-length-3 c = search needs
 returns-3 : tie.Need-returns-3
 returns-3 c = tt
 
-none-requires-4 : tie.Need-none-requires-4
-none-requires-4 c κs = tt
-
-same-length-4 : tie.Need-same-length-4
-same-length-4 c = search needs
-
-returns-4 : tie.Need-returns-4
-returns-4 c = tt
-
 slice-relend-prefix-carry-in : tie.Need-slice-relend-prefix-carry-in
 slice-relend-prefix-carry-in c = search needs
 
@@ -68,17 +59,17 @@ carry-in-requires c κs = tt
 done-requires : tie.Need-done-requires
 done-requires c κs = tt
 
+same-length-4 : tie.Need-same-length-4
+same-length-4 c = search needs
+
 same-length-5 : tie.Need-same-length-5
 same-length-5 c = search needs
 
 same-length-6 : tie.Need-same-length-6
 same-length-6 c = search needs
 
-same-length-7 : tie.Need-same-length-7
-same-length-7 c = search needs
-
-returns-5 : tie.Need-returns-5
-returns-5 c = tt
+returns-4 : tie.Need-returns-4
+returns-4 c = tt
 
 pub carry-spec : {M : Type 1} → statement M
 carry-spec =
@@ -94,9 +85,6 @@ carry-spec =
     none-requires-3
     same-length-3
     returns-3
-    none-requires-4
-    same-length-4
-    returns-4
     slice-relend-prefix-carry-in
     slice-aggregate-carry-in
     slice-relend-prefix-carry-in-2
@@ -105,7 +93,7 @@ carry-spec =
     slice-aggregate-carry-in-3
     carry-in-requires
     done-requires
+    same-length-4
     same-length-5
     same-length-6
-    same-length-7
-    returns-5)
+    returns-4)
