@@ -1,5 +1,5 @@
 // Answers requests of the line protocol on standard input, one line each, on standard output.
-mod rooms;
+use session::rooms;
 
 fn main() {
     let mut out = rooms::out();
@@ -10,7 +10,7 @@ fn main() {
     let mut table = rooms::table();
     let mut pool = rooms::pool();
     let mut words = rooms::words();
-    let mut bytes = rooms::bytes();
+    let mut bytes = rooms::pool();
     session::answer_all(
         &mut out,
         &mut input,

@@ -1,33 +1,43 @@
 // The request X: the state's table and pool are carried from the schema image to the older one, in rooms of the asked sizes.
-use crate::asking::Told;
+use crate::line;
 use crate::number;
 use crate::number::Number;
 use crate::out;
+use crate::rooms::Image;
+use crate::rooms::Out;
+use crate::rooms::Pool;
+use crate::rooms::Table;
+use crate::state;
+use crate::state::Answer;
+use crate::state::State;
 use crate::text;
 use carry::Carried;
 
-// `STYLE ROOM WORDS BYTES`, where a number that is missing is over every room's length.
-pub(crate) struct Asked {
-    style: usize,
+// `STYLE ROOM WORDS BYTES`. Where a number is missing, or the style is neither 0 nor 1, a size is over every room's length.
+struct Asked {
+    is_pretty: bool,
     room: usize,
     words: usize,
     bytes: usize,
 }
 
-pub(crate) fn sizes(line: &[u8]) -> Asked {
-    let style = number::leading(line);
-    let a = style.next;
-    let room = number::leading(&line[a..]);
+// The numbers of a line that ends at `end`.
+fn sizes(line: &[u8], end: usize) -> Asked {
+    let to = line::least(end, line.len());
+    let from = line::least(2, to);
+    let style = number::leading(&line[from..to]);
+    let a = from + style.next;
+    let room = number::leading(&line[a..to]);
     let b = a + room.next;
-    let words = number::leading(&line[b..]);
+    let words = number::leading(&line[b..to]);
     let c = b + words.next;
     let mut bytes = usize::MAX;
-    if let Number::Is(n) = number::decimal(&line[c..]) {
+    if let Number::Is(n) = number::decimal(&line[c..to]) {
         bytes = n;
     }
     Asked {
-        style: style.n,
-        room: room.n,
+        is_pretty: style.n == 1,
+        room: if style.n > 1 { usize::MAX } else { room.n },
         words: words.n,
         bytes,
     }
@@ -35,7 +45,7 @@ pub(crate) fn sizes(line: &[u8]) -> Asked {
 
 // `X 0 0 NODES POOLBYTES WORDSHEX POOLHEX BUFFERHEX KEPT`
 fn made(
-    buf: &mut [u8],
+    buf: &mut Out,
     room: &[u8],
     nodes: &[u32],
     pool: &[u8],
@@ -50,7 +60,7 @@ fn made(
 
 // `X print NO AT BUFFERHEX KEPT`, or `X read ..` where the read refused.
 fn refused(
-    buf: &mut [u8],
+    buf: &mut Out,
     by: &[u8],
     room: &[u8],
     nodes: &[u32],
@@ -65,7 +75,7 @@ fn refused(
     out::kept(buf, d, text::kept(nodes, 0, pool, 0))
 }
 
-fn told(buf: &mut [u8], carried: Carried, room: &[u8], words: &[u32], bytes: &[u8]) -> usize {
+fn told(buf: &mut Out, carried: Carried, room: &[u8], words: &[u32], bytes: &[u8]) -> usize {
     match carried {
         Carried::Made(count, used) => made(buf, room, words, bytes, count, used),
         Carried::NotPrinted(no, place) => refused(
@@ -92,61 +102,71 @@ fn told(buf: &mut [u8], carried: Carried, room: &[u8], words: &[u32], bytes: &[u
 // Carries in just these rooms, and tells what came of it.
 fn carry_in(
     pretty: bool,
-    buf: &mut [u8],
-    image: &[u8],
-    older: &[u8],
-    root: usize,
-    table: &[u32],
-    pool: &[u8],
+    buf: &mut Out,
+    image: &Image,
+    older: &Image,
+    table: &Table,
+    pool: &Pool,
     room: &mut [u8],
     words: &mut [u32],
     bytes: &mut [u8],
+    state: State,
 ) -> usize {
     text::fill_bytes(room);
     text::fill_words(words);
     text::fill_bytes(bytes);
-    let carried = carry::carry(pretty, image, older, root, table, pool, room, words, bytes);
+    let carried = carry::carry(
+        pretty,
+        line::front(image, state.image),
+        line::front(older, state.older),
+        state.root,
+        line::front_words(table, state.table),
+        line::front(pool, state.pool),
+        room,
+        words,
+        bytes,
+    );
     told(buf, carried, room, words, bytes)
 }
 
-// A style other than 0 and 1 is no request, nor is a room over what there is to lend.
+// `X STYLE ROOM WORDS BYTES`, of a line that ends at `end`. The line's room is the buffer, since the line is not needed once its numbers
+// are known. A style other than 0 and 1 is no request, nor is a room over what there is to lend.
 pub(crate) fn carry(
-    buf: &mut [u8],
+    buf: &mut Out,
     line: &mut [u8],
-    asked: Asked,
-    image: &[u8],
-    older: &[u8],
-    root: usize,
-    table: &[u32],
-    pool: &[u8],
+    end: usize,
+    image: &Image,
+    older: &Image,
+    table: &Table,
+    pool: &Pool,
     words: &mut [u32],
     bytes: &mut [u8],
-) -> Told {
+    state: State,
+) -> Answer {
+    let asked = sizes(line, end);
     let room = asked.room;
     let count = asked.words;
     let used = asked.bytes;
-    if asked.style > 1 {
-        return Told::NoRequest;
-    }
     if room > line.len() {
-        return Told::NoRequest;
+        return state::none(state);
     }
     if count > words.len() {
-        return Told::NoRequest;
+        return state::none(state);
     }
     if used > bytes.len() {
-        return Told::NoRequest;
+        return state::none(state);
     }
-    Told::Answer(carry_in(
-        asked.style == 1,
+    let at = carry_in(
+        asked.is_pretty,
         buf,
         image,
         older,
-        root,
         table,
         pool,
         &mut line[..room],
         &mut words[..count],
         &mut bytes[..used],
-    ))
+        state,
+    );
+    state::done(state, at)
 }

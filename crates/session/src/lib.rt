@@ -8,25 +8,33 @@ mod number;
 mod out;
 mod reading;
 mod request;
+pub mod rooms;
 mod setting;
 mod state;
 mod text;
 
-// Answers the requests of standard input to its end. `buf` holds what is to be written and is not yet, `input` what is read and in no line
-// yet, `line` the line that is answered, and what it is printed into; `image`, `older`, `table` and `pool` hold the state between requests;
-// `words` and `bytes` are lent to what is read. Any lengths will do: what goes over its room is no request.
+use rooms::Image;
+use rooms::Input;
+use rooms::Line;
+use rooms::Out;
+use rooms::Pool;
+use rooms::Table;
+use rooms::Words;
+
+// Answers the requests of standard input to its end. `image`, `older`, `table` and `pool` hold the state between requests, `words` and
+// `bytes` are lent to what is read. What goes over its room is no request.
 //
 // Nothing says that the input ends, so the turns are counted down from a number that no run uses up.
 pub fn answer_all(
-    buf: &mut [u8],
-    input: &mut [u8],
-    line: &mut [u8],
-    image: &mut [u8],
-    older: &mut [u8],
-    table: &mut [u32],
-    pool: &mut [u8],
-    words: &mut [u32],
-    bytes: &mut [u8],
+    buf: &mut Out,
+    input: &mut Input,
+    line: &mut Line,
+    image: &mut Image,
+    older: &mut Image,
+    table: &mut Table,
+    pool: &mut Pool,
+    words: &mut Words,
+    bytes: &mut Pool,
 ) {
     let mut lines = lines::begun();
     let mut state = state::empty();

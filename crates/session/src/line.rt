@@ -1,4 +1,4 @@
-// Finding a byte, and copying.
+// Finding a byte, the front of a slice, and copying. What a front is asked for is kept within the slice, so that no caller has to show it.
 ghost use Prim.Native.Nat.{_≤_};
 ghost use lib.ListN.{length};
 
@@ -19,6 +19,17 @@ pub(crate) fn least(a: usize, b: usize) -> usize
     ensures { λ r. ⌜ r ≤ b ⌝ }
 {
     if a < b { a } else { b }
+}
+
+// The first n bytes, or all where there are no more.
+pub(crate) fn front<'a>(s: &'a [u8], n: usize) -> &'a [u8] {
+    let end = least(n, s.len());
+    &s[..end]
+}
+
+pub(crate) fn front_words<'a>(s: &'a [u32], n: usize) -> &'a [u32] {
+    let end = least(n, s.len());
+    &s[..end]
 }
 
 // Copies the front of one slice to the front of another, as much as both have, and answers how much.

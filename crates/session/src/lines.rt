@@ -1,8 +1,6 @@
 // Standard input, line by line.
 use crate::line;
 use libc::STDIN_FILENO;
-ghost use lib.ListN.{length};
-ghost use Rattle.session.specs.Held.{Held};
 
 // Where the input stands. Of its room the bytes from start to end are read and in no line yet, and the line's room holds length bytes of
 // the line of number count. `is_whole` where that line has ended, `is_long` where it went over its room, and bytes of it were dropped.
@@ -17,9 +15,7 @@ pub(crate) struct Lines {
 }
 
 // Before the first line.
-pub(crate) fn begun() -> Lines
-    ensures { λ r. ⌜ Held r 0 0 ⌝ }
-{
+pub(crate) fn begun() -> Lines {
     Lines {
         start: 0,
         end: 0,
@@ -32,10 +28,7 @@ pub(crate) fn begun() -> Lines
 }
 
 // The line after one that has ended, empty yet, and any other line as it stands.
-fn opened(at: Lines) -> Lines
-    requires { ⌜ Held at (at .end) (at .length) ⌝ }
-    ensures { λ r. ⌜ Held r (at .end) (at .length) ⌝ }
-{
+fn opened(at: Lines) -> Lines {
     if !at.is_whole {
         return at;
     }
@@ -51,13 +44,10 @@ fn opened(at: Lines) -> Lines
 }
 
 // Moves the bytes before the next newline from the input's room to the line's, as many as it holds, and passes over the newline.
-fn take(input: &[u8], line: &mut [u8], at: Lines) -> Lines
-    requires { ⌜ Held at (length (now input)) (length (now line)) ⌝ }
-    ensures { λ r. ⌜ Held r (length (now (input .entry))) (length (now (line .entry))) ⌝ }
-{
-    let start = at.start;
-    let end = at.end;
-    let length = at.length;
+fn take(input: &[u8], line: &mut [u8], at: Lines) -> Lines {
+    let end = line::least(at.end, input.len());
+    let start = line::least(at.start, end);
+    let length = line::least(at.length, line.len());
     let stop = line::find(input, start, end, b'\n');
     let n = line::copy(&input[start..stop], &mut line[length..]);
     Lines {
@@ -72,9 +62,7 @@ fn take(input: &[u8], line: &mut [u8], at: Lines) -> Lines
 }
 
 // Reads on, where no line ends in what was read before. The end of the input ends the last line.
-fn refill(input: &mut [u8], at: Lines) -> Lines
-    ensures { λ r. ⌜ Held r (length (now (input .entry))) (at .length) ⌝ }
-{
+fn refill(input: &mut [u8], at: Lines) -> Lines {
     let got = libc::read(STDIN_FILENO, input);
     let end = io::count(got, input);
     Lines {
@@ -89,10 +77,7 @@ fn refill(input: &mut [u8], at: Lines) -> Lines
 }
 
 // Goes on to the end of a line, or as far as is read, and then reads on.
-pub(crate) fn next(input: &mut [u8], line: &mut [u8], at: Lines) -> Lines
-    requires { ⌜ Held at (length (now input)) (length (now line)) ⌝ }
-    ensures { λ r. ⌜ Held r (length (now (input .entry))) (length (now (line .entry))) ⌝ }
-{
+pub(crate) fn next(input: &mut [u8], line: &mut [u8], at: Lines) -> Lines {
     let taken = take(input, line, opened(at));
     if taken.is_whole {
         return taken;

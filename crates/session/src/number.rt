@@ -65,3 +65,10 @@ pub(crate) fn leading(line: &[u8]) -> Ended
     };
     Ended { n, next: end + 1 }
 }
+
+// The number that is all of a line after its letter and a space, where the line ends at `end`.
+pub(crate) fn after_letter(line: &[u8], end: usize) -> Number {
+    let to = line::least(end, line.len());
+    let from = line::least(2, to);
+    decimal(&line[from..to])
+}

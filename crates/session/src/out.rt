@@ -1,29 +1,26 @@
 // What is written, by way of a buffer: `at` bytes of it are to be written yet, and each function answers how many are then.
+use crate::line;
+use crate::rooms::Out;
 ghost use Prim.Native.Nat.{_<_};
 use libc::STDOUT_FILENO;
 
 // Writes the buffer's first `at` bytes.
-pub(crate) fn flush(out: &[u8], at: usize) {
-    if at <= out.len() {
-        io::write_all(STDOUT_FILENO, &out[..at]);
-    }
+pub(crate) fn flush(out: &Out, at: usize) {
+    io::write_all(STDOUT_FILENO, line::front(out, at));
 }
 
 // One byte; a full buffer is written first.
-pub(crate) fn byte(out: &mut [u8], at: usize, b: u8) -> usize {
+pub(crate) fn byte(out: &mut Out, at: usize, b: u8) -> usize {
     if at < out.len() {
         out[at] = b;
         return at + 1;
     }
     io::write_all(STDOUT_FILENO, out);
-    if 0 < out.len() {
-        out[0] = b;
-        return 1;
-    }
-    0
+    out[0] = b;
+    1
 }
 
-pub(crate) fn bytes(out: &mut [u8], at: usize, s: &[u8]) -> usize {
+pub(crate) fn bytes(out: &mut Out, at: usize, s: &[u8]) -> usize {
     let mut to = at;
     let mut i = 0;
     while i < s.len() {
@@ -34,7 +31,7 @@ pub(crate) fn bytes(out: &mut [u8], at: usize, s: &[u8]) -> usize {
 }
 
 // A space, and n in decimal.
-pub(crate) fn number(out: &mut [u8], at: usize, n: usize) -> usize {
+pub(crate) fn number(out: &mut Out, at: usize, n: usize) -> usize {
     let mut digits = [0u8; 20];
     let k = io::decimal(n as u64, &mut digits);
     let to = byte(out, at, b' ');
@@ -47,7 +44,7 @@ fn glyph(d: u8) -> u8
     if d < 10 { 48 + d } else { 87 + d }
 }
 
-fn hex_byte(out: &mut [u8], at: usize, b: u8) -> usize {
+fn hex_byte(out: &mut Out, at: usize, b: u8) -> usize {
     let to = byte(out, at, glyph(b / 16));
     byte(out, to, glyph(b % 16))
 }
@@ -58,7 +55,7 @@ fn low(x: u32) -> u8 {
 }
 
 // Eight hex digits, most significant first.
-fn hex_word(out: &mut [u8], at: usize, w: u32) -> usize {
+fn hex_word(out: &mut Out, at: usize, w: u32) -> usize {
     let first = hex_byte(out, at, low(w / 16777216));
     let second = hex_byte(out, first, low(w / 65536));
     let third = hex_byte(out, second, low(w / 256));
@@ -66,7 +63,7 @@ fn hex_word(out: &mut [u8], at: usize, w: u32) -> usize {
 }
 
 // A space, and the bytes in hex, `-` where there are none.
-pub(crate) fn hex(out: &mut [u8], at: usize, s: &[u8]) -> usize {
+pub(crate) fn hex(out: &mut Out, at: usize, s: &[u8]) -> usize {
     let mut to = byte(out, at, b' ');
     if s.len() == 0 {
         return byte(out, to, b'-');
@@ -80,7 +77,7 @@ pub(crate) fn hex(out: &mut [u8], at: usize, s: &[u8]) -> usize {
 }
 
 // A space, and the words in hex, `-` where there are none.
-pub(crate) fn hex_words(out: &mut [u8], at: usize, s: &[u32]) -> usize {
+pub(crate) fn hex_words(out: &mut Out, at: usize, s: &[u32]) -> usize {
     let mut to = byte(out, at, b' ');
     if s.len() == 0 {
         return byte(out, to, b'-');
@@ -94,7 +91,7 @@ pub(crate) fn hex_words(out: &mut [u8], at: usize, s: &[u32]) -> usize {
 }
 
 // The line that ends an answer: whether all that was to be left alone was.
-pub(crate) fn kept(out: &mut [u8], at: usize, is_kept: bool) -> usize {
+pub(crate) fn kept(out: &mut Out, at: usize, is_kept: bool) -> usize {
     if is_kept {
         return bytes(out, at, b" kept\n");
     }
@@ -102,7 +99,7 @@ pub(crate) fn kept(out: &mut [u8], at: usize, is_kept: bool) -> usize {
 }
 
 // The answer to a line that is no request: its number, counted from 1.
-pub(crate) fn no_request(out: &mut [u8], at: usize, line: usize) -> usize {
+pub(crate) fn no_request(out: &mut Out, at: usize, line: usize) -> usize {
     let mark = byte(out, at, b'?');
     let to = number(out, mark, line);
     byte(out, to, b'\n')

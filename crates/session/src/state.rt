@@ -1,5 +1,4 @@
 // The state between requests, and what a request leaves.
-ghost use Rattle.session.specs.Fits.{Fits};
 
 // The root, and how much of their rooms the schema image, the older one, the node table and the pool take.
 pub(crate) struct State {
@@ -17,9 +16,7 @@ pub(crate) struct Answer {
     pub(crate) at: usize,
 }
 
-pub(crate) fn empty() -> State
-    ensures { λ r. ⌜ Fits r 0 0 0 0 ⌝ }
-{
+pub(crate) fn empty() -> State {
     State {
         image: 0,
         older: 0,
@@ -29,9 +26,7 @@ pub(crate) fn empty() -> State
     }
 }
 
-pub(crate) fn done(state: State, at: usize) -> Answer
-    ensures { λ r. ⌜ Fits (r .state) (state .image) (state .older) (state .table) (state .pool) ⌝ }
-{
+pub(crate) fn done(state: State, at: usize) -> Answer {
     Answer {
         state,
         is_request: true,
@@ -39,9 +34,7 @@ pub(crate) fn done(state: State, at: usize) -> Answer
     }
 }
 
-pub(crate) fn none(state: State) -> Answer
-    ensures { λ r. ⌜ Fits (r .state) (state .image) (state .older) (state .table) (state .pool) ⌝ }
-{
+pub(crate) fn none(state: State) -> Answer {
     Answer {
         state,
         is_request: false,

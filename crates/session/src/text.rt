@@ -1,6 +1,7 @@
 // The request T: a text is read into rooms of the asked sizes.
 use crate::line;
 use crate::out;
+use crate::rooms::Out;
 use parse::Read;
 
 // What every word and byte of a room holds before a call.
@@ -77,7 +78,7 @@ pub(crate) fn none() -> Outcome {
 
 // `NODES POOLBYTES WORDSHEX POOLHEX` from `at` on. Where a count went over its room, what is there is told.
 pub(crate) fn tell(
-    buf: &mut [u8],
+    buf: &mut Out,
     at: usize,
     nodes: &[u32],
     pool: &[u8],
@@ -88,8 +89,8 @@ pub(crate) fn tell(
     let bytes = line::least(used, pool.len());
     let a = out::number(buf, at, count);
     let b = out::number(buf, a, used);
-    let c = out::hex_words(buf, b, &nodes[..words]);
-    let d = out::hex(buf, c, &pool[..bytes]);
+    let c = out::hex_words(buf, b, line::front_words(nodes, words));
+    let d = out::hex(buf, c, line::front(pool, bytes));
     Outcome {
         is_request: true,
         is_made: true,
@@ -100,7 +101,7 @@ pub(crate) fn tell(
 }
 
 // `T 0 0 NODES POOLBYTES WORDSHEX POOLHEX KEPT`
-fn made(buf: &mut [u8], nodes: &[u32], pool: &[u8], count: usize, used: usize) -> Outcome {
+fn made(buf: &mut Out, nodes: &[u32], pool: &[u8], count: usize, used: usize) -> Outcome {
     let a = out::bytes(buf, 0, b"T 0 0");
     let told = tell(buf, a, nodes, pool, count, used);
     let at = out::kept(buf, told.at, kept(nodes, told.words, pool, told.bytes));
@@ -114,7 +115,7 @@ fn made(buf: &mut [u8], nodes: &[u32], pool: &[u8], count: usize, used: usize) -
 }
 
 // `T NO AT KEPT`
-fn refused(buf: &mut [u8], nodes: &[u32], pool: &[u8], no: usize, place: usize) -> Outcome {
+fn refused(buf: &mut Out, nodes: &[u32], pool: &[u8], no: usize, place: usize) -> Outcome {
     let a = out::byte(buf, 0, b'T');
     let b = out::number(buf, a, no);
     let c = out::number(buf, b, place);
@@ -130,7 +131,7 @@ fn refused(buf: &mut [u8], nodes: &[u32], pool: &[u8], no: usize, place: usize) 
 
 // Reads the text into just these rooms, and tells what came of it.
 pub(crate) fn read(
-    buf: &mut [u8],
+    buf: &mut Out,
     schema: &[u8],
     root: usize,
     text: &[u8],

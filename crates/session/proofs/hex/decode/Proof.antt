@@ -1,4 +1,4 @@
--- `session::hex::decode` spells no more bytes than it has digits. The measure is what is left of the bytes. Assumes nothing.
+-- `session::hex::decode` is safe and ends. The measure is what is left of the bytes. Assumes nothing.
 use borrow.Author.Needs.{needs}
 use mathlib.Core.Path.{_≡_, sym}
 use Prim.Native.Nat.{ℕ, _≤_, _<_, _-_, _+_}

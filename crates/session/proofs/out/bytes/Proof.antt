@@ -1,13 +1,12 @@
--- `session::out::bytes` is safe and ends. The measure is what is left of the bytes. Assumes nothing.
+-- `session::out::bytes` is safe and ends. The measure is what is left of the slice. Assumes nothing.
 use borrow.Author.Needs.{needs}
-use mathlib.Core.Path.{_≡_, sym}
-use Prim.Native.Nat.{ℕ, _≤_, _<_, _-_, _+_}
+use Prim.Native.Nat.{_-_}
 use lib.ListN.{length}
 use Rattle.session.proofs.out.bytes.Statement.{statement}
 use Rattle.session.proofs.out.bytes.Tie as tie
 
 abbrev Inv-loop : tie.InvT-loop
-Inv-loop out₀ at s to₀ i₀ out to i = length out ≡ length out₀
+Inv-loop out₀ at s to₀ i₀ out to i = Unit {0}
 
 abbrev μ-loop : tie.MeasureT-loop
 μ-loop out₀ at s to₀ i₀ out to i = length s - i
@@ -30,9 +29,6 @@ loop-less c = search needs
 loop-again : tie.Need-loop-again Inv-loop μ-loop
 loop-again c = search needs
 
-same-length : tie.Need-same-length Inv-loop μ-loop
-same-length c = search needs
-
 returns : tie.Need-returns Inv-loop μ-loop
 returns c = search needs
 
@@ -48,5 +44,4 @@ bytes-spec =
     add-i
     loop-less
     loop-again
-    same-length
     returns)

@@ -1,13 +1,12 @@
--- `session::out::hex_words` is safe and ends. The measure is what is left of the words. Assumes nothing.
+-- `session::out::hex_words` is safe and ends. The measure is what is left of the slice. Assumes nothing.
 use borrow.Author.Needs.{needs}
-use mathlib.Core.Path.{_≡_, sym}
-use Prim.Native.Nat.{ℕ, _≤_, _<_, _-_, _+_}
+use Prim.Native.Nat.{_-_}
 use lib.ListN.{length}
 use Rattle.session.proofs.out.hex_words.Statement.{statement}
 use Rattle.session.proofs.out.hex_words.Tie as tie
 
 abbrev Inv-loop : tie.InvT-loop
-Inv-loop out₀ at s to₀ i₀ out to i = length out ≡ length out₀
+Inv-loop out₀ at s to₀ i₀ out to i = Unit {0}
 
 abbrev μ-loop : tie.MeasureT-loop
 μ-loop out₀ at s to₀ i₀ out to i = length s - i
@@ -17,9 +16,6 @@ byte-requires c κs = search needs
 
 byte-requires-2 : tie.Need-byte-requires-2 Inv-loop μ-loop
 byte-requires-2 c κs = search needs
-
-same-length : tie.Need-same-length Inv-loop μ-loop
-same-length c = search needs
 
 returns : tie.Need-returns Inv-loop μ-loop
 returns c = search needs
@@ -45,9 +41,6 @@ loop-less c = search needs
 loop-again : tie.Need-loop-again Inv-loop μ-loop
 loop-again c = search needs
 
-same-length-2 : tie.Need-same-length-2 Inv-loop μ-loop
-same-length-2 c = search needs
-
 returns-2 : tie.Need-returns-2 Inv-loop μ-loop
 returns-2 c = search needs
 
@@ -59,7 +52,6 @@ hex-words-spec =
     μ-loop
     byte-requires
     byte-requires-2
-    same-length
     returns
     loop-holds
     mul-hex-word
@@ -68,5 +60,4 @@ hex-words-spec =
     add-i
     loop-less
     loop-again
-    same-length-2
     returns-2)

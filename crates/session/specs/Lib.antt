@@ -1,3 +1,0 @@
-pub mod Within
-pub mod Fits
-pub mod Held
