@@ -26,7 +26,7 @@ use Rattle.definitions.specs.Live.{meaning}
 use Rattle.definitions.specs.Names.{names}
 use Rattle.definitions.specs.Reading.{Made, readAnswer, readNodes, readPool}
 use Rattle.definitions.specs.Print.{Style, printText, printAnswer}
-use Rattle.compatibility.specs.Laying.{size, laidBytes}
+use Rattle.trees.specs.Laying.{size, laidBytes}
 use Rattle.compatibility.specs.Demand.{byName, Spelled, spelling, spelled, lacking, knowsAll, refusalOf, allNamed, Room}
 use Rattle.carry.specs.declared.Carried.{Carried}
 use Rattle.carry.specs.declared.Carried.the-variants as carried

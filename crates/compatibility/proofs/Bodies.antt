@@ -26,14 +26,14 @@ use Rattle.definitions.specs.Names.{nameOf, valueNames, knows}
 use Rattle.definitions.specs.Loop.{Out, done, refused, Stand, Turn, stop, ahead, onward, turns, loop}
 use Rattle.definitions.specs.Reading.{moved, nested, field, opened, closed, again, noted, turnOf, named, item, start, fields, under, readBody, rootWant, whole}
 use Rattle.definitions.specs.Print.{Style, numberText, quoted, label, lead, trail, opening, closing, valueText, render}
-use Rattle.compatibility.specs.Laying.{rankUnder, relabel, size, count, highIn, lowIn, bytesIn, laidBytes, laidWords}
+use Rattle.trees.specs.Laying.{rankUnder, relabel, size, count, highIn, lowIn, bytesIn, laidBytes, laidWords}
 use Rattle.compatibility.specs.Demand.{Spelled, spelledAt, spelled, lacking}
 use Rattle.laws.proofs.Lists.{each-append}
-use Rattle.compatibility.proofs.Accepted.{Accepted}
-use Rattle.compatibility.proofs.Extends.{Extends}
-use Rattle.compatibility.proofs.Scanning.{blank, drop-on, part-is, name-at, symbol-at, end-at}
-use Rattle.compatibility.proofs.Styles.{openGap, closeGap, opening-is, closing-is, lead-blank, trail-blank, openGap-blank, closeGap-blank, closing-stops, value-stops, rest-stops, render-on, inside-on, value-some}
-use Rattle.compatibility.proofs.Trees.{Pair, Sound, soundI32, soundI64, soundU32, soundU64, soundBool, soundEnum, soundString, soundBytes, soundBody, soundEntry, Fits, Together, Wants, rank-small, scope-newer, Known, known, name-good}
+use Rattle.trees.proofs.Accepted.{Accepted}
+use Rattle.trees.proofs.Extends.{Extends}
+use Rattle.trees.proofs.Scanning.{blank, drop-on, part-is, name-at, symbol-at, end-at}
+use Rattle.trees.proofs.Styles.{openGap, closeGap, opening-is, closing-is, lead-blank, trail-blank, openGap-blank, closeGap-blank, closing-stops, value-stops, rest-stops, render-on, inside-on, value-some}
+use Rattle.trees.proofs.Trees.{Pair, Sound, soundI32, soundI64, soundU32, soundU64, soundBool, soundEnum, soundString, soundBytes, soundBody, soundEntry, Fits, Together, Wants, rank-small, scope-newer, Known, known, name-good}
 use Rattle.compatibility.proofs.Fields.{orMiss, orElse, miss-else, ahead-miss, nested-miss, lacking-append, fieldDone, over-i32, over-i64, over-u32, over-u64, over-bool, over-run, over-enum, valueNames-other, space}
 
 -- ---- an entry's marks: whether its key and its value have come

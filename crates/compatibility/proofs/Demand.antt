@@ -6,7 +6,6 @@ use mathlib.Core.Bool.{true, false}
 use mathlib.Core.List.{List, [], _++_, append-nil, map}
 use mathlib.Core.Option.{none, some}
 use lib.ListN.{length, drop}
-use lib.Seq.{sets, sets-eq}
 use borrow.Author.Tests.{ltb-true, le-ltb}
 use Rattle.definitions.specs.declared.Node.{Node}
 use Rattle.definitions.specs.Refusals.{given, denied, place, mostDepth}
@@ -20,21 +19,22 @@ use Rattle.definitions.specs.Loop.{done}
 use Rattle.definitions.specs.Calls.{barred}
 use Rattle.definitions.specs.Reading.{Made, nodeRoom, fitted, whole, readBarred, readAnswer, readNodes, readPool}
 use Rattle.definitions.specs.Print.{Style, render, printText}
-use Rattle.compatibility.specs.Laying.{relabel, size, laidBytes, laidWords, rootOver, tableOver}
+use Rattle.laws.proofs.Stores.{sets-front}
+use Rattle.trees.specs.Laying.{relabel, size, laidBytes, laidWords, rootOver, tableOver}
 use Rattle.compatibility.specs.Demand.{byName, Spelled, spelled, lacking, knowsAll, refusalOf, Setting, Room, tableRead, poolRead, Reads, Refuses, Demand}
-use Rattle.compatibility.proofs.Accepted.{Accepted, accepted-is}
-use Rattle.compatibility.proofs.Extends.{Extends, extends-is}
-use Rattle.compatibility.proofs.Trees.{Fits}
+use Rattle.trees.proofs.Accepted.{Accepted, accepted-is}
+use Rattle.trees.proofs.Extends.{Extends, extends-is}
+use Rattle.trees.proofs.Trees.{Fits}
 use Rattle.compatibility.proofs.Fields.{orMiss}
 use Rattle.compatibility.proofs.Bodies.{over-whole}
-use Rattle.compatibility.proofs.Canon.{Canonical, canon-id, canon-canonical, canon-rugged}
+use Rattle.trees.proofs.Canon.{Canonical, canon-id, canon-canonical, canon-rugged}
 use Rattle.compatibility.proofs.Fitting.{rugged-fits}
 use Rattle.compatibility.proofs.Relabelled.{spelled-names, lacking-none, lacking-some, AllKnown, all-known, relabel-canonical, byName-relabel, render-relabel, relabel-fits, size-relabel, bytes-relabel}
 use Rattle.compatibility.proofs.Places.{Stands, lacking-stands, spelled-stands, Rising, names-rise}
 use Rattle.compatibility.proofs.Rooms.{size-meaning, bytes-render}
-use Rattle.compatibility.proofs.TableGood.{fits-good, table-valid}
-use Rattle.compatibility.proofs.Tables.{Shaped, fits-shaped, planted-tree, grow-planted, node-laid, length-laid}
-use Rattle.compatibility.proofs.Valid.{valid-rugged}
+use Rattle.trees.proofs.TableGood.{fits-good, table-valid}
+use Rattle.trees.proofs.Tables.{Shaped, fits-shaped, planted-tree, grow-planted, node-laid, length-laid}
+use Rattle.trees.proofs.Valid.{valid-rugged}
 
 -- ---- the table that a canonical tree makes means that tree
 
@@ -50,11 +50,6 @@ meaning-laid s root u more after sh cn =
     ap (λ (e : ℕ). canon s (inMessage root) (treeOf pool (grow (e - 1) w 1 e))) (ap (λ (m : Node). m .end) n)
     ∙ ap (canon s (inMessage root)) t
     ∙ canon-id s (inMessage root) u cn
-
--- ---- what was lent holds it afterwards
-
-pub sets-front : (l v : List ℕ) → length v ≤ length l → sets l 0 v ≡ v ++ drop (length v) l
-sets-front l v h = let z : 0 + length v ≡ length v = omega arith in sets-eq v l 0 (omega arith) ∙ rw z refl
 
 -- ---- the demand, in a setting
 

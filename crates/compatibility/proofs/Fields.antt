@@ -25,15 +25,15 @@ use Rattle.definitions.specs.Names.{valueNamed, valueNames, knows}
 use Rattle.definitions.specs.Loop.{Out, done, refused, ahead}
 use Rattle.definitions.specs.Reading.{Child, moved, numberLeaf, runLeaf, nested, memberFound, afterName, scalar, stringValue, trueName, falseName, field}
 use Rattle.definitions.specs.Print.{decimal, signedDecimal, quoted, numberText}
-use Rattle.compatibility.specs.Laying.{size, highIn, lowIn, bytesIn, laidBytes, laidWords}
+use Rattle.trees.specs.Laying.{size, highIn, lowIn, bytesIn, laidBytes, laidWords}
 use Rattle.compatibility.specs.Demand.{Spelled, spelledAt, lacking, refusalOf}
 use Rattle.laws.proofs.Ranges.{SignedIn, widen-lowOf, numberText-i32, numberText-i64, numberText-u32, numberText-u64}
 use Rattle.laws.proofs.Lists.{AreBytes}
-use Rattle.compatibility.proofs.Accepted.{Accepted, In, found-number, member-within, member-identifier}
-use Rattle.compatibility.proofs.Extends.{Extends, known-member}
-use Rattle.compatibility.proofs.Scanning.{blank, drop-on, symbol-at}
-use Rattle.compatibility.proofs.Values.{reads-unsigned, reads-signed, reads-true, reads-false, reads-member, reads-string, scalar-i32, scalar-i64, scalar-u32, scalar-u64, scalar-bool, scalar-enum, scalar-string, scalar-bytes}
-use Rattle.compatibility.proofs.Trees.{Wants}
+use Rattle.trees.proofs.Accepted.{Accepted, In, found-number, member-within, member-identifier}
+use Rattle.trees.proofs.Extends.{Extends, known-member}
+use Rattle.trees.proofs.Scanning.{blank, drop-on, symbol-at}
+use Rattle.trees.proofs.Values.{reads-unsigned, reads-signed, reads-true, reads-false, reads-member, reads-string, scalar-i32, scalar-i64, scalar-u32, scalar-u64, scalar-bool, scalar-enum, scalar-string, scalar-bytes}
+use Rattle.trees.proofs.Trees.{Wants}
 
 -- ---- a refusal, or what comes else
 

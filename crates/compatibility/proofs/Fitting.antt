@@ -17,8 +17,8 @@ use Rattle.definitions.specs.Names.{isSome}
 use Rattle.compatibility.specs.Demand.{hasName, allNamed}
 use Rattle.laws.proofs.Ranges.{SignedIn}
 use Rattle.laws.proofs.Lists.{and-parts, true-false}
-use Rattle.compatibility.proofs.Trees.{Pair, Sound, soundI32, soundI64, soundU32, soundU64, soundBool, soundEnum, soundString, soundBytes, soundBody, soundEntry, Fits}
-use Rattle.compatibility.proofs.Canon.{Canonical, Both, Rough, roughI32, roughI64, roughU32, roughU64, roughBool, roughEnum, roughString, roughBytes, roughBody, roughEntry, Standing, strange, proper, Rugged}
+use Rattle.trees.proofs.Trees.{Pair, Sound, soundI32, soundI64, soundU32, soundU64, soundBool, soundEnum, soundString, soundBytes, soundBody, soundEntry, Fits}
+use Rattle.trees.proofs.Canon.{Canonical, Both, Rough, roughI32, roughI64, roughU32, roughU64, roughBool, roughEnum, roughString, roughBytes, roughBody, roughEntry, Standing, strange, proper, Rugged}
 
 -- a value has something inside only if it is a message or an entry
 pub kids-case : (s : List ℕ) (left : ℕ) (w : Want) (v : Val) (kids : Tree) → Sound s left w v kids → (kids ≡ nil) ⊎ (nests (w .kind) ≡ true)

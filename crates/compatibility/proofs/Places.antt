@@ -17,9 +17,9 @@ use Rattle.definitions.specs.Live.{Val, number, run, inside, Tree, nil, node, f
 use Rattle.definitions.specs.Names.{Name, fieldNamed, valueNamed, nameOf, memberNamed, valueNames, knows}
 use Rattle.definitions.specs.Print.{Style, lead, trail, opening, closing, label, numberText, valueText, render}
 use Rattle.compatibility.specs.Demand.{Spelled, spelling, spelledAt, spelled, lacking}
-use Rattle.compatibility.proofs.Scanning.{drop-on, part-is}
-use Rattle.compatibility.proofs.Styles.{render-on}
-use Rattle.compatibility.proofs.Trees.{Sound, soundI32, soundI64, soundU32, soundU64, soundBool, soundEnum, soundString, soundBytes, Fits}
+use Rattle.trees.proofs.Scanning.{drop-on, part-is}
+use Rattle.trees.proofs.Styles.{render-on}
+use Rattle.trees.proofs.Trees.{Sound, soundI32, soundI64, soundU32, soundU64, soundBool, soundEnum, soundString, soundBytes, Fits}
 use Rattle.compatibility.proofs.Fields.{numberText-enum}
 
 -- ---- names that stand where they are said to

@@ -17,14 +17,14 @@ use Rattle.definitions.specs.Nodes.{word32}
 use Rattle.definitions.specs.Live.{Val, number, run, inside, Tree, nil, node, firstUnknown, sameVal, has, keyOf, hasKey, sharing, replaced}
 use Rattle.definitions.specs.Names.{Name, fieldNamed, valueNamed, nameOf, memberNamed, valueNames, names, knows, isSome}
 use Rattle.definitions.specs.Print.{Style, memberText, numberText, label, opening, closing, valueText, render}
-use Rattle.compatibility.specs.Laying.{found, rankUnder, relabel, size, laidBytes}
+use Rattle.trees.specs.Laying.{found, rankUnder, relabel, size, laidBytes}
 use Rattle.compatibility.specs.Demand.{byName, Spelled, spelledAt, spelled, lacking, knowsAll}
 use Rattle.laws.proofs.Ranges.{SignedIn}
 use Rattle.laws.proofs.Lists.{and-parts, and-made, true-false, find-none}
-use Rattle.compatibility.proofs.Accepted.{Accepted, In, field-within, field-known, found-field, found-member, found-number, member-number-one}
-use Rattle.compatibility.proofs.Extends.{Extends, known-field, known-order, known-member}
-use Rattle.compatibility.proofs.Trees.{Pair, Sound, soundI32, soundI64, soundU32, soundU64, soundBool, soundEnum, soundString, soundBytes, soundBody, soundEntry, Fits, Together, Wants, has-in, rank-small, scope-newer, scope-older, known}
-use Rattle.compatibility.proofs.Canon.{AtLeast, Canonical, map-scope}
+use Rattle.trees.proofs.Accepted.{Accepted, In, field-within, field-known, found-field, found-member, found-number, member-number-one}
+use Rattle.trees.proofs.Extends.{Extends, known-field, known-order, known-member}
+use Rattle.trees.proofs.Trees.{Pair, Sound, soundI32, soundI64, soundU32, soundU64, soundBool, soundEnum, soundString, soundBytes, soundBody, soundEntry, Fits, Together, Wants, has-in, rank-small, scope-newer, scope-older, known}
+use Rattle.trees.proofs.Canon.{AtLeast, Canonical, map-scope}
 use Rattle.compatibility.proofs.Fitting.{kids-case}
 use Rattle.compatibility.proofs.Fields.{valueNames-enum, valueNames-other}
 

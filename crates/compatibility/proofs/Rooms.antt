@@ -15,10 +15,10 @@ use Rattle.definitions.specs.Nodes.{nodeAt, tableEnd, grow, forest, tileF, tile
 use Rattle.definitions.specs.Validity.{rootGood, below, valid}
 use Rattle.definitions.specs.Live.{Val, number, run, inside, Tree, nil, node, treeOf, sharing, replaced, insert, canon, meaning}
 use Rattle.definitions.specs.Print.{Style, quoteByte, quoteBytes, quoted, opening, closing, valueText, render}
-use Rattle.compatibility.specs.Laying.{size, laidBytes, bytesIn}
+use Rattle.trees.specs.Laying.{size, laidBytes, bytesIn}
 use Rattle.laws.proofs.Lists.{and-parts, true-false, AreBytes, bytes-head, bytes-tail}
 use Rattle.laws.proofs.ClassTable.{byte-test}
-use Rattle.compatibility.proofs.Trees.{Sound, soundString, soundBytes, Fits}
+use Rattle.trees.proofs.Trees.{Sound, soundString, soundBytes, Fits}
 use Rattle.compatibility.proofs.Places.{number-leaf, run-leaf}
 
 -- ---- nodes

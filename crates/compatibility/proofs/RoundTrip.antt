@@ -20,12 +20,12 @@ use Rattle.definitions.specs.Live.{Val, number, run, inside, Tree, nil, node, f
 use Rattle.definitions.specs.Names.{Name, nameOf, valueNames, names, knows, isSome}
 use Rattle.definitions.specs.Reading.{readNodes, readPool}
 use Rattle.definitions.specs.Print.{Style, printText}
-use Rattle.compatibility.specs.Laying.{rankUnder, relabel}
+use Rattle.trees.specs.Laying.{rankUnder, relabel}
 use Rattle.compatibility.specs.Demand.{Setting, Room, RoundTrip, knowsAll, allNamed}
 use Rattle.laws.proofs.Lists.{and-parts, and-made, true-false, same-refl, find-none}
-use Rattle.compatibility.proofs.Accepted.{Accepted, In, field-within, field-known, find-own, found-number}
-use Rattle.compatibility.proofs.Extends.{Extends, extends-self}
-use Rattle.compatibility.proofs.Trees.{Sound, soundI32, soundI64, soundU32, soundU64, soundBool, soundEnum, soundString, soundBytes, soundBody, soundEntry, Fits, Together, has-in, known}
+use Rattle.trees.proofs.Accepted.{Accepted, In, field-within, field-known, find-own, found-number}
+use Rattle.trees.proofs.Extends.{Extends, extends-self}
+use Rattle.trees.proofs.Trees.{Sound, soundI32, soundI64, soundU32, soundU64, soundBool, soundEnum, soundString, soundBytes, soundBody, soundEntry, Fits, Together, has-in, known}
 use Rattle.compatibility.proofs.Fields.{valueNames-enum, valueNames-other}
 use Rattle.compatibility.proofs.Fitting.{kids-case}
 use Rattle.compatibility.proofs.Demand.{t, fits, okN, ext, here, reads, meaning-read}

@@ -25,7 +25,7 @@ use Rattle.definitions.specs.Live.{Val, number, run, inside, Tree, nil, node, f
 use Rattle.definitions.specs.Names.{Name, fieldNamed, valueNamed, nameOf, valueNames, names, knows, isSome}
 use Rattle.definitions.specs.Reading.{nodeRoom, readAnswer, readNodes, readPool}
 use Rattle.definitions.specs.Print.{Style, label, lead, trail, opening, valueText, render, printText}
-use Rattle.compatibility.specs.Laying.{size, laidBytes}
+use Rattle.trees.specs.Laying.{size, laidBytes}
 
 -- ---- the same live values under the same names
 

@@ -11,7 +11,7 @@ use Rattle.definitions.specs.Extending.{extends}
 use Rattle.definitions.specs.Scope.{inMessage}
 use Rattle.definitions.specs.Tokens.{endOfText}
 use Rattle.definitions.specs.Loop.{Out, done, refused}
-use Rattle.definitions.specs.Reading.{Made, whole, wordsOf, bytesOf, readBody, readAnswer}
+use Rattle.definitions.specs.Reading.{Made, whole, fitted, wordsOf, bytesOf, readBody, readAnswer}
 use Rattle.definitions.specs.Print.{Style, compact, pretty, printText}
 
 -- schema E of document 01, with the type of `id`, which is 1 (i32) there
@@ -97,9 +97,13 @@ abbrev pub refusal : {A : Type 0} → Answer A → Refusal
 refusal (denied why at) = by why (at .offset)
 refusal (given a) = granted
 
--- a text read under message 0 with room enough
+-- no text, read under message 0
+abbrev pub schemaRead : List ℕ → Refusal
+schemaRead schema = refusal (readAnswer schema 0 [] 1000 1000)
+
+-- a text read under message 0 with room enough, the schema known to be accepted
 abbrev pub reading : List ℕ → List ℕ → Refusal
-reading schema s = refusal (readAnswer schema 0 s 1000 1000)
+reading schema s = refusal (fitted 1000 1000 (whole schema 0 s))
 
 -- what a body read is refused for
 abbrev pub ended : Out → Refusal

@@ -27,7 +27,7 @@ use Rattle.definitions.specs.Print as print
 use Rattle.definitions.specs.Print.{compact, printText, printAnswer}
 use Rattle.definitions.specs.Required.{filled, filledIn, filledBelow, complete, requiredAnswer}
 use Rattle.definitions.specs.Access.{isValue, valueAnswer}
-use Rattle.definitions.proofs.Cases.{Case, Outcome, reads, refuses, outcome, schemaE, schemaX, schemaNamed, fieldOf, memberOf, schemaOf, judged, Refusal, by, granted, refusal, reading, levels, ofLength}
+use Rattle.definitions.proofs.Cases.{Case, Outcome, reads, refuses, outcome, schemaE, schemaX, schemaNamed, fieldOf, memberOf, schemaOf, judged, Refusal, by, granted, refusal, schemaRead, reading, levels, ofLength}
 
 -- the value of `id` retyped, (c) and (d)
 abbrev of : ℕ → List ℕ → Case
@@ -101,9 +101,10 @@ named count end = 9 ∷ 0 ∷ 0 ∷ 0 ∷ end ∷ 6 ∷ 1 ∷ 0 ∷ count ∷ 2 
 
 abbrev refusals : List Refusal
 refusals =
-    reading [] []
-    ∷ reading (schemaNamed 49) []
-    ∷ reading (schemaNamed 95) []
+    schemaRead []
+    ∷ schemaRead (schemaNamed 49)
+    ∷ schemaRead (schemaNamed 95)
+    ∷ schemaRead schemaX
     ∷ refusal (readAnswer (schemaE 1) 1 [] 5 0)
     ∷ refusal (readAnswer (schemaE 1) 0 [] 5 0)
     ∷ ofLength (readBarred (schemaE 1) 0 1048577)
@@ -141,6 +142,7 @@ abbrev refusalsExpected : List Refusal
 refusalsExpected =
     by 1 0  -- an empty image
     ∷ by 1 0  -- a name that starts with a digit
+    ∷ granted
     ∷ granted
     ∷ by 2 0
     ∷ granted

@@ -4,8 +4,8 @@ use Prim.Native.Nat.{ℕ, suc, _+_, _≤_, _<_}
 use mathlib.Core.List.{List, [], _∷_, _++_}
 use native.Mathlib.Omega.{arith}
 use native.Mathlib.Nat.{add-zero}
-use lib.ListN.{length, set}
-use lib.Seq.{sets, set-out, set-comm}
+use lib.ListN.{length, drop, set}
+use lib.Seq.{sets, sets-eq, set-out, set-comm}
 
 -- a run of stores, and then the next
 pub sets-append : (a b e : List ℕ) (i : ℕ) → sets e i (a ++ b) ≡ sets (sets e i a) (i + length a) b
@@ -41,3 +41,7 @@ sets-below (a ∷ n) v e i j h = rw (set-below v e i j a (omega arith)) (sets-be
 pub sets-out : (a e : List ℕ) (i : ℕ) → length e ≤ i → sets e i a ≡ e
 sets-out [] e i h = refl
 sets-out (x ∷ a) e i h = rw (set-out e i x h) (sets-out a e (suc i) (omega arith))
+
+-- a run of stores from the front on: it, and then what was there
+pub sets-front : (l v : List ℕ) → length v ≤ length l → sets l 0 v ≡ v ++ drop (length v) l
+sets-front l v h = let z : 0 + length v ≡ length v = omega arith in sets-eq v l 0 (omega arith) ∙ rw z refl

@@ -20,12 +20,12 @@ use Rattle.definitions.specs.Loop.{Out, done, refused, Stand, Turn, onward, tur
 use Rattle.definitions.specs.Reading.{moved, Child, opens, closerOf, openerTok, opened, field as readField, default, unless, defaultValue, closed, again, noted, turnOf, named, itemTok, item, start, fields, under, readBody}
 use Rattle.laws.proofs.Reach.{by-test}
 use Rattle.laws.proofs.Lists.{true-false, none-some}
-use Rattle.compatibility.specs.Laying.{count}
-use Rattle.compatibility.proofs.Accepted.{Accepted, field-key, field-type, found-field}
-use Rattle.compatibility.proofs.Trees.{in-has, key-small, not-entry, nests-is}
-use Rattle.compatibility.proofs.Canon.{Both}
-use Rattle.compatibility.proofs.TableGood.{Right, Good, right-body, right-entry}
-use Rattle.compatibility.proofs.Valid.{ScopeGood, want-good}
+use Rattle.trees.specs.Laying.{count}
+use Rattle.trees.proofs.Accepted.{Accepted, field-key, field-type, found-field}
+use Rattle.trees.proofs.Trees.{in-has, key-small, not-entry, nests-is}
+use Rattle.trees.proofs.Canon.{Both}
+use Rattle.trees.proofs.TableGood.{Right, Good, right-body, right-entry}
+use Rattle.trees.proofs.Valid.{ScopeGood, want-good}
 use Rattle.read_valid.proofs.Laid.{Lays, lays-refused, lays-map, beside, ahead-lays, joined-lays, stays-lays, One, one, Inside, nested-lays}
 use Rattle.read_valid.proofs.Leaves.{Makes, afterName-lays, default-lays}
 

@@ -12,8 +12,8 @@ use Rattle.definitions.specs.Nodes.{words}
 use Rattle.definitions.specs.Live.{Val, number, run, inside, Tree, nil, node}
 use Rattle.definitions.specs.Loop.{Out, done, refused, ahead}
 use Rattle.definitions.specs.Reading.{leaf, numberLeaf, runLeaf, nested, joined}
-use Rattle.compatibility.specs.Laying.{size, highIn, lowIn, bytesIn, laidBytes, laidWords}
-use Rattle.compatibility.proofs.TableGood.{Right, Good}
+use Rattle.trees.specs.Laying.{size, highIn, lowIn, bytesIn, laidBytes, laidWords}
+use Rattle.trees.proofs.TableGood.{Right, Good}
 
 -- ---- laid down
 

@@ -25,9 +25,9 @@ use Rattle.definitions.specs.Reading.{moved, integerTok, unsigned, negated, sig
 use Rattle.laws.proofs.Reach.{by-test}
 use Rattle.laws.proofs.Ranges.{signed-plain, signed-in, mostUnsigned-lt, widen-in}
 use Rattle.laws.proofs.Lists.{true-false}
-use Rattle.compatibility.proofs.Accepted.{member-number}
-use Rattle.compatibility.proofs.TableGood.{Right, right-i32, right-i64, right-u32, right-u64, right-bool, right-enum, right-string, right-bytes, right-body}
-use Rattle.compatibility.proofs.Valid.{KindOf, isI32, isI64, isU32, isU64, isBool, isString, isBytes, isEnum, isBody, isEntry}
+use Rattle.trees.proofs.Accepted.{member-number}
+use Rattle.trees.proofs.TableGood.{Right, right-i32, right-i64, right-u32, right-u64, right-bool, right-enum, right-string, right-bytes, right-body}
+use Rattle.trees.proofs.Valid.{KindOf, isI32, isI64, isU32, isU64, isBool, isString, isBytes, isEnum, isBody, isEntry}
 use Rattle.read_valid.proofs.Laid.{Lays, lays-refused, One, leaf-lays, number-lays, run-lays}
 
 -- a reading from the spot q on makes one value for what is wanted, with so many levels left

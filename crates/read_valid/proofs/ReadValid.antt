@@ -28,11 +28,11 @@ use Rattle.definitions.specs.Required.{complete, requiredAnswer}
 use Rattle.definitions.specs.Access.{isValue, valueAnswer}
 use Rattle.laws.proofs.Reach.{by-test}
 use Rattle.laws.proofs.Lists.{none-some}
-use Rattle.compatibility.specs.Laying.{size, laidBytes, tableOver}
-use Rattle.compatibility.proofs.Accepted.{Accepted, accepted-is}
-use Rattle.compatibility.proofs.Tables.{length-laid}
-use Rattle.compatibility.proofs.TableGood.{Good, table-valid}
-use Rattle.compatibility.proofs.Demand.{sets-front}
+use Rattle.laws.proofs.Stores.{sets-front}
+use Rattle.trees.specs.Laying.{size, laidBytes, tableOver}
+use Rattle.trees.proofs.Accepted.{Accepted, accepted-is}
+use Rattle.trees.proofs.Tables.{length-laid}
+use Rattle.trees.proofs.TableGood.{Good, table-valid}
 use Rattle.read_valid.specs.ReadValid.{ReadValid, ReadUsable, Usable, NotBadTable}
 use Rattle.read_valid.proofs.Laid.{Laid, Lays}
 use Rattle.read_valid.proofs.Bodies.{Rest, readBody-lays}

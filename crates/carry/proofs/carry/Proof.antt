@@ -14,7 +14,7 @@ use Rattle.carry.proofs.print_as.Reads as print-as-reads
 use Rattle.text_format.proofs.read.Reads as read-reads
 
 print-as-requires : tie.Need-print-as-requires
-print-as-requires c κs = search needs
+print-as-requires c κs = tt
 
 enum-known-printed : tie.Need-enum-known-printed
 enum-known-printed c = search needs
@@ -35,10 +35,10 @@ slice-aggregate-read : tie.Need-slice-aggregate-read
 slice-aggregate-read c = sym (length-take-le _ _ (length-fits (now (c .before .before .before .before .before .before .before .before .before .before .before .before .before .before .before .args .newer)) (now (c .before .before .before .before .before .before .before .before .before .before .before .before .before .before .before .args .older)) (styleOf (c .before .before .before .before .before .before .before .before .before .before .before .before .before .before .before .args .pretty)) (c .before .before .before .before .before .before .before .before .before .before .before .before .before .before .before .args .root) (now (c .before .before .before .before .before .before .before .before .before .before .before .before .before .before .before .args .nodes)) (now (c .before .before .before .before .before .before .before .before .before .before .before .before .before .before .before .args .pool)) (now (c .before .before .before .before .before .before .before .before .before .before .before .before .before .before .before .args .buffer)) (now (c .before .before .before .before .before .before .before .before .before .before .before .before .before .before .before .args .into)) (now (c .before .before .before .before .before .before .before .before .before .before .before .before .before .before .before .args .bytes)) (c .before .before .before .before .before .before .print-as .result) (c .before .before .before .before .before .before .print-as .ensures .0) (c .before .before .before .before .before .before .print-as .last .1 .1 .1 .1 .1 .0) (c .before .before .before .before .before .before .print-as .ensures .1) _ (c .before .before .printed2 .given .1)))
 
 read-requires : tie.Need-read-requires
-read-requires c κs = search needs
+read-requires c κs = tt
 
 carried-read-requires : tie.Need-carried-read-requires
-carried-read-requires c κs = search needs
+carried-read-requires c κs = tt
 
 same-length-2 : tie.Need-same-length-2
 same-length-2 c = search needs

@@ -10,7 +10,7 @@ use Rattle.text_format.proofs.print.Reads as print-reads
 use Rattle.text_format.proofs.print_pretty.Reads as print-pretty-reads
 
 print-pretty-requires : tie.Need-print-pretty-requires
-print-pretty-requires c κs = search needs
+print-pretty-requires c κs = tt
 
 same-length : tie.Need-same-length
 same-length c = search needs
@@ -19,7 +19,7 @@ returns : tie.Need-returns
 returns c = styled true _ (c .before .before .before .before .if1 .taken) _ _ _ _ _ _ _ (c .before .before .print-pretty .ensures)
 
 print-requires : tie.Need-print-requires
-print-requires c κs = search needs
+print-requires c κs = tt
 
 same-length-2 : tie.Need-same-length-2
 same-length-2 c = search needs

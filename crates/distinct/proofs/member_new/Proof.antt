@@ -43,7 +43,7 @@ member-name-requires : tie.Need-member-name-requires
 member-name-requires c κs = (c .before .before .before .before .pre .0 .placed, c .before .before .before .before .pre .1, members-name (c .before .before .before .before .pre .0) (c .before .before .before .before .args .first + c .before .before .before .before .args .index) (c .before .before .before .before .pre .1))
 
 mark-requires : tie.Need-mark-requires
-mark-requires c κs = search needs
+mark-requires c κs = tt
 
 shr-if2 : tie.Need-shr-if2
 shr-if2 c = omega (arith, c .mark .ensures, mark-lt (c .before .member-name .result .now))

@@ -50,7 +50,7 @@ returns-3 : tie.Need-returns-3
 returns-3 c = λ f. value-there _ _ (c .before .before .before .before .before .before .before .before .before .before .before .before .before .before .args .w) _ (c .before .before .before .before .before .before .before .before .before .before .before .before .before .before .args .q) _ _ (c .before .before .before .before .before .before .before .before .before .before .if1 .left) _ _ f _ (c .before .before .before .before .before .before .before .before .before .want-in .ensures) _ (c .before .before .before .before .before .before .before .put-missing .ensures f) _ (c .before .before .before .first .given .1) (c .before .before .before .before .before .before .before .put-missing .kept .1 .1 .1 .1 .1 .0) (c .if2 .taken)
 
 is-too-deep-requires : tie.Need-is-too-deep-requires
-is-too-deep-requires c κs = search needs
+is-too-deep-requires c κs = tt
 
 same-length-3 : tie.Need-same-length-3
 same-length-3 c = search needs

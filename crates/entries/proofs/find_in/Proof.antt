@@ -22,7 +22,7 @@ slice-aggregate-same : tie.Need-slice-aggregate-same
 slice-aggregate-same c = search needs
 
 same-requires : tie.Need-same-requires
-same-requires c κs = search needs
+same-requires c κs = tt
 
 returns-2 : tie.Need-returns-2
 returns-2 c = rw (within-entry (c .before .before .before .before .before .before .before .args .w) (c .before .before .before .if1 .left), find-key (now (c .before .before .before .before .before .before .before .args .image)) (c .before .before .before .before .before .before .before .args .w .reference) (now (c .before .before .before .before .before .before .before .args .name)) (sym (c .if2 .taken) ∙ c .before .same .ensures)) refl
@@ -31,7 +31,7 @@ slice-aggregate-same-2 : tie.Need-slice-aggregate-same-2
 slice-aggregate-same-2 c = search needs
 
 same-requires-2 : tie.Need-same-requires-2
-same-requires-2 c κs = search needs
+same-requires-2 c κs = tt
 
 returns-3 : tie.Need-returns-3
 returns-3 c = rw (within-entry (c .before .before .before .before .before .before .before .before .before .before .args .w) (c .before .before .before .before .before .before .if1 .left), find-value (now (c .before .before .before .before .before .before .before .before .before .before .args .image)) (c .before .before .before .before .before .before .before .before .before .before .args .w .reference) (now (c .before .before .before .before .before .before .before .before .before .before .args .name)) (sym (c .before .before .before .if2 .left) ∙ c .before .before .before .before .same .ensures) (sym (c .if3 .taken) ∙ c .before .same2 .ensures)) refl

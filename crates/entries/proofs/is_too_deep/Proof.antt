@@ -1,6 +1,5 @@
 -- `entries::is_too_deep` meets its contract.
 use mathlib.Core.Path.{refl}
-use borrow.Author.Needs.{needs}
 use Rattle.entries.proofs.is_too_deep.Statement.{statement}
 use Rattle.entries.proofs.is_too_deep.Tie as tie
 use Rattle.entries.proofs.is_too_deep.Reads as reads

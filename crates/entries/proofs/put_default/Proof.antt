@@ -16,7 +16,7 @@ use Rattle.records.proofs.enumeration.Reads as enumeration-reads
 use Rattle.records.proofs.member.Reads as member-reads
 
 is-run-requires : tie.Need-is-run-requires
-is-run-requires c κs = search needs
+is-run-requires c κs = tt
 
 mul-v : tie.Need-mul-v
 mul-v c = record { fits = omega (arith, c .before .before .before .before .pre .1 .byte) }
@@ -37,7 +37,7 @@ member-requires : tie.Need-member-requires
 member-requires c κs = (known-placed (c .before .before .before .before .before .before .pre .0), omega (arith, rw (← c .enumeration .ensures) at (enum-inside _ (c .before .before .before .before .before .before .pre .0 .good) _ (c .before .before .before .before .before .before .pre .2 .enums (c .before .if2 .taken))), rw (← c .enumeration .ensures) at (enum-filled _ (c .before .before .before .before .before .before .pre .0 .good) _ (c .before .before .before .before .before .before .pre .2 .enums (c .before .if2 .taken)))))
 
 widened-requires : tie.Need-widened-requires
-widened-requires c κs = search needs
+widened-requires c κs = tt
 
 put-number-requires-2 : tie.Need-put-number-requires-2
 put-number-requires-2 c κs = search needs

@@ -84,7 +84,7 @@ returns-2 : tie.Need-returns-2
 returns-2 c = sym (bad-number (c .before .before .before .before .before .before .args .image .now) (c .before .before .before .before .before .before .args .index) (c .before .before .before .before .field .result) (c .before .before .before .before .field .ensures) (numberless (c .before .before .before .before .before .before .args .image .now) (c .before .before .before .before .before .before .args .index) (c .before .before .before .before .field .result) (c .if2 .taken)))
 
 key-good-requires : tie.Need-key-good-requires
-key-good-requires c κs = search needs
+key-good-requires c κs = tt
 
 returns-3 : tie.Need-returns-3
 returns-3 c = sym (bad-key (c .before .before .before .before .before .before .before .before .args .image .now) (c .before .before .before .before .before .before .before .before .args .index) (c .before .before .before .before .before .before .field .result) (c .before .before .before .before .before .before .field .ensures) (sym (c .before .key-good .ensures) ∙ not-true (c .before .key-good .result) (c .if3 .taken)))

@@ -32,7 +32,7 @@ name-requires : tie.Need-name-requires
 name-requires c κs = search needs
 
 identifier-requires : tie.Need-identifier-requires
-identifier-requires c κs = search needs
+identifier-requires c κs = tt
 
 returns-3 : tie.Need-returns-3
 returns-3 c = c .identifier .ensures ∙ ap identifier (c .before .name .ensures) ∙ sym (inside (c .before .before .before .before .before .before .args .image .now) (c .before .before .before .before .before .before .args .start) (c .before .before .before .before .before .before .args .count) (omega (arith, c .before .before .before .before .name-count .ensures)))

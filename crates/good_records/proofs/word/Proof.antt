@@ -5,7 +5,6 @@ use mathlib.Core.Bool.{Bool, true, false}
 use lib.Dec.{leb}
 use borrow.Author.Tests.{le-leb, lt-leb}
 use Rattle.definitions.specs.Image.{letter, digit, word}
-use borrow.Author.Needs.{needs}
 use Rattle.good_records.proofs.word.Statement.{statement}
 use Rattle.good_records.proofs.word.Tie as tie
 
@@ -22,7 +21,7 @@ above : (b : ℕ) → 48 ≤ b → leb b 57 ≡ digit b
 above b h = simp (le-leb 48 b h)
 
 letter-requires : tie.Need-letter-requires
-letter-requires c κs = search needs
+letter-requires c κs = tt
 
 returns : tie.Need-returns
 returns c = either (c .before .before .args .b) (c .before .letter .result) (c .before .letter .ensures) (c .if1 .taken)

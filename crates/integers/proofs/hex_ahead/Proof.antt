@@ -25,13 +25,13 @@ shared-slice-read-d : tie.Need-shared-slice-read-d
 shared-slice-read-d c = search needs
 
 hex-digit-requires : tie.Need-hex-digit-requires
-hex-digit-requires c κs = search needs
+hex-digit-requires c κs = tt
 
 returns-3 : tie.Need-returns-3
 returns-3 c = c .hex-digit .ensures ∙ sym (ahead-x (c .before .before .before .before .before .before .before .args .s .now) (c .before .before .before .before .before .before .before .args .at) (omega arith) (c .before .if3 .taken))
 
 hex-digit-requires-2 : tie.Need-hex-digit-requires-2
-hex-digit-requires-2 c κs = search needs
+hex-digit-requires-2 c κs = tt
 
 returns-4 : tie.Need-returns-4
 returns-4 c = c .hex-digit2 .ensures ∙ sym (ahead-X (c .before .before .before .before .before .before .before .before .args .s .now) (c .before .before .before .before .before .before .before .before .args .at) (omega arith) (c .before .before .if3 .left) (c .before .if4 .taken))

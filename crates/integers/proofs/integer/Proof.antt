@@ -7,7 +7,7 @@ use Rattle.integers.proofs.integer.Statement.{statement}
 use Rattle.integers.proofs.integer.Tie as tie
 
 magnitude-requires : tie.Need-magnitude-requires
-magnitude-requires c κs = search needs
+magnitude-requires c κs = tt
 
 enum-known-v : tie.Need-enum-known-v
 enum-known-v c = search needs
@@ -22,7 +22,7 @@ returns-2 : tie.Need-returns-2
 returns-2 c = narrow-past _ _ _ _ (sym (c .before .before .before .before .magnitude .ensures) ∙ c .before .before .v .given .1) (c .if1 .taken)
 
 signed-requires : tie.Need-signed-requires
-signed-requires c κs = search needs
+signed-requires c κs = tt
 
 returns-3 : tie.Need-returns-3
 returns-3 c = narrow-worth _ _ _ _ (sym (c .before .before .before .before .before .magnitude .ensures) ∙ c .before .before .before .v .given .1) _ (c .before .if1 .left) (c .signed .ensures)

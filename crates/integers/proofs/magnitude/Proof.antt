@@ -22,7 +22,7 @@ returns-2 : tie.Need-returns-2
 returns-2 c = c .worth .ensures ∙ ap (integerOf false greatest) (sym (value-decimal _ (c .before .before .before .if1 .left) (c .before .if2 .taken)))
 
 hex-ahead-requires : tie.Need-hex-ahead-requires
-hex-ahead-requires c κs = search needs
+hex-ahead-requires c κs = tt
 
 worth-requires-2 : tie.Need-worth-requires-2
 worth-requires-2 c κs = search needs

@@ -25,7 +25,7 @@ returns : tie.Need-returns Inv-loop μ-loop
 returns c = live-all _ _ _ _ _ _ (c .before .before .before .before .before .before .pre .2) (c .before .before .before .before .before .before .pre .3) _ (c .before .before .node .ensures) _ (c .before .sharing .ensures) (c .if1 .taken)
 
 rank-requires : tie.Need-rank-requires Inv-loop μ-loop
-rank-requires c κs = search needs
+rank-requires c κs = tt
 
 cast-j : tie.Need-cast-j Inv-loop μ-loop
 cast-j c = search needs
@@ -37,7 +37,7 @@ node-requires-2 : tie.Need-node-requires-2 Inv-loop μ-loop
 node-requires-2 c κs = omega (arith, c .before .before .before .before .before .before .before .before .before .before .pre .2 .room, c .loop-test .taken)
 
 rank-requires-2 : tie.Need-rank-requires-2 Inv-loop μ-loop
-rank-requires-2 c κs = search needs
+rank-requires-2 c κs = tt
 
 returns-2 : tie.Need-returns-2 Inv-loop μ-loop
 returns-2 c = later-last _ _ _ _ _ _ (c .before .before .before .before .before .before .before .before .before .before .before .before .before .before .pre .2) (c .before .before .before .before .before .before .before .before .before .before .before .before .before .before .pre .3) _ (c .before .before .before .before .before .before .before .before .before .before .node .ensures) _ (c .before .before .before .before .before .before .before .before .before .sharing .ensures) _ (c .before .before .before .before .before .before .before .rank .ensures) _ (c .before .before .before .before .before .loop .inv) (c .before .before .before .before .loop-test .taken) _ (c .before .before .before .node2 .ensures) (sym (c .before .before .rank2 .ensures) ∙ c .before .if2 .taken) (c .if3 .taken)

@@ -12,7 +12,7 @@ returns : tie.Need-returns
 returns c = sharing-entry _ _ _ (c .if1 .taken)
 
 is-unknown-requires : tie.Need-is-unknown-requires
-is-unknown-requires c κs = search needs
+is-unknown-requires c κs = tt
 
 returns-2 : tie.Need-returns-2
 returns-2 c = sharing-unknown _ _ _ (c .before .before .if1 .left) (sym (c .before .is-unknown .ensures) ∙ c .if2 .taken)

@@ -13,7 +13,6 @@ use Rattle.records.specs.Known.{foundOf}
 use Rattle.laws.proofs.Tests.{and-left, and-right}
 use Rattle.records.proofs.Accepted.{accepted-header, message-inside, field-own}
 use Rattle.records.proofs.Search.{run-fits}
-use borrow.Author.Needs.{needs}
 use Rattle.lookup.proofs.find_field.Statement.{statement}
 use Rattle.lookup.proofs.find_field.Tie as tie
 

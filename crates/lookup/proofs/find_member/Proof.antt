@@ -4,7 +4,6 @@ use Prim.Native.Nat.{ℕ, _-_, _<_}
 use mathlib.Core.Bool.{Bool}
 use mathlib.Core.List.{List}
 use native.Mathlib.Omega.{arith}
-use borrow.Author.Needs.{needs}
 use Rattle.definitions.specs.Basics.{same}
 use Rattle.definitions.specs.Image.{enumeration, valueCount, memberName, findMember}
 use Rattle.records.proofs.Room.{valueCount-lt}
@@ -38,7 +37,7 @@ member-name-requires c κs =
     (known-placed (c .before .before .before .before .before .before .pre .0), b, member-has (c .before .before .before .before .before .before .args .image .now) (c .before .before .before .before .before .before .pre .0 .good) (c .before .loop .i) b .name .inside)
 
 same-requires : tie.Need-same-requires Inv-loop μ-loop
-same-requires c κs = search needs
+same-requires c κs = tt
 
 returns : tie.Need-returns Inv-loop μ-loop
 returns c = left-hit (named (c .before .before .before .before .before .before .before .before .before .args .image .now) (c .before .before .before .before .before .before .before .before .before .args .name .now)) (valueCount (c .before .before .before .before .before .before .before .before .before .args .image .now)) (c .before .before .before .before .loop .inv) (c .before .before .before .loop-test .taken) (ap (λ (t : List ℕ). same t (c .before .before .before .before .before .before .before .before .before .args .name .now)) (sym (c .before .before .member-name .ensures)) ∙ sym (c .before .same .ensures) ∙ c .if1 .taken)

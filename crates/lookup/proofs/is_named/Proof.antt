@@ -10,7 +10,6 @@ use Rattle.definitions.specs.Basics.{same}
 use Rattle.definitions.specs.Image.{fieldCount}
 use Rattle.laws.proofs.Tests.{and-false-left, and-false-right}
 use Rattle.records.proofs.Accepted.{known-placed, field-has}
-use borrow.Author.Needs.{needs}
 use Rattle.lookup.proofs.is_named.Statement.{statement}
 use Rattle.lookup.proofs.is_named.Tie as tie
 
@@ -36,7 +35,7 @@ field-name-requires c κs =
     (known-placed (c .before .before .before .before .before .before .before .pre .0), b, field-has (c .before .before .before .before .before .before .before .args .image .now) (c .before .before .before .before .before .before .before .pre .0 .good) (c .before .before .before .before .before .before .before .args .i) b .name .inside)
 
 same-requires : tie.Need-same-requires
-same-requires c κs = search needs
+same-requires c κs = tt
 
 returns-3 : tie.Need-returns-3
 returns-3 c = c .same .ensures ∙ ap (λ (t : List ℕ). same t (c .before .before .before .before .before .before .before .before .before .args .name .now)) (c .before .field-name .ensures) ∙ within (c .before .before .before .before .before .before .before .before .before .args .run .first) (c .before .before .before .before .before .before .before .before .before .args .run .count) (c .before .before .before .before .before .before .before .before .before .args .i) _ (omega (arith, c .before .before .before .before .before .if1 .left)) (omega (arith, c .before .before .before .before .before .if1 .left, c .before .before .if2 .left))

@@ -10,7 +10,6 @@ use Rattle.records.specs.Known.{foundOf}
 use Rattle.records.proofs.Room.{fieldCount-lt}
 use Rattle.records.proofs.Accepted.{known-placed, field-has}
 use Rattle.records.proofs.Search.{Left, left-next, left-hit, left-none}
-use borrow.Author.Needs.{needs}
 use Rattle.lookup.proofs.search_fields.Statement.{statement}
 use Rattle.lookup.proofs.search_fields.Tie as tie
 
@@ -41,7 +40,7 @@ field-name-requires c κs =
     (known-placed (c .before .before .before .before .before .pre .0), b, field-has (c .before .before .before .before .before .args .image .now) (c .before .before .before .before .before .pre .0 .good) (c .before .loop .i) b .name .inside)
 
 same-requires : tie.Need-same-requires Inv-loop μ-loop
-same-requires c κs = search needs
+same-requires c κs = tt
 
 returns : tie.Need-returns Inv-loop μ-loop
 returns c = left-hit (named (c .before .before .before .before .before .before .before .before .args .image .now) (c .before .before .before .before .before .before .before .before .args .name .now)) (fieldCount (c .before .before .before .before .before .before .before .before .args .image .now)) (c .before .before .before .before .loop .inv) (c .before .before .before .loop-test .taken) (ap (λ (t : List ℕ). same t (c .before .before .before .before .before .before .before .before .args .name .now)) (sym (c .before .before .field-name .ensures)) ∙ sym (c .before .same .ensures) ∙ c .if1 .taken) ∙ whole (named (c .before .before .before .before .before .before .before .before .args .image .now) (c .before .before .before .before .before .before .before .before .args .name .now)) (c .before .before .before .before .before .before .before .before .args .run .first) (c .before .before .before .before .before .before .before .before .args .run .count)

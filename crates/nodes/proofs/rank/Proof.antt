@@ -6,7 +6,7 @@ use Rattle.nodes.proofs.rank.Statement.{statement}
 use Rattle.nodes.proofs.rank.Tie as tie
 
 is-unknown-requires : tie.Need-is-unknown-requires
-is-unknown-requires c κs = search needs
+is-unknown-requires c κs = tt
 
 cast-result : tie.Need-cast-result
 cast-result c = search needs

@@ -20,7 +20,7 @@ field-requires-2 : tie.Need-field-requires-2
 field-requires-2 c κs = (known-placed (c .before .before .before .pre .0), inside-message _ (c .before .before .before .pre .0 .good) _ _ (c .if1 .left) (c .before .before .before .pre .1) (c .before .before .before .pre .2))
 
 want-of-requires : tie.Need-want-of-requires
-want-of-requires c κs = search needs
+want-of-requires c κs = tt
 
 returns-2 : tie.Need-returns-2
 returns-2 c = c .want-of .ensures ∙ ap (wantOf (c .before .before .before .before .before .args .i)) (c .before .field2 .ensures) ∙ sym (want-message _ _ _ (c .before .before .if1 .left))

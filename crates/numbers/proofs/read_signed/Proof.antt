@@ -25,13 +25,13 @@ enum-told : tie.Need-enum-told
 enum-told c = search needs
 
 bad-requires : tie.Need-bad-requires
-bad-requires c κs = search needs
+bad-requires c κs = tt
 
 returns : tie.Need-returns
 returns c = λ f. no-answers _ _ _ _ _ _ _ _ _ (signed-bad _ _ _ _ _ (scanned-bad _ _ _ (c .before .before .before .next-from .ensures) (c .before .enum-told .given .1))) (bad-is _ _ _ (c .before .enum-told .given .1) (c .bad .ensures))
 
 most-signed-requires : tie.Need-most-signed-requires
-most-signed-requires c κs = search needs
+most-signed-requires c κs = tt
 
 read-integer-requires : tie.Need-read-integer-requires
 read-integer-requires c κs = (c .before .before .before .before .before .before .before .before .before .before .pre .2, reached _ _ _ _ (c .before .before .before .before .before .before .before .before .before .before .pre .1 .inside) (scanned _ _ _ _ (c .before .before .before .before .before .before .before .next-from .ensures) (c .before .before .before .before .before .st .given .1)))
@@ -52,13 +52,13 @@ enum-told-2 : tie.Need-enum-told-2
 enum-told-2 c = search needs
 
 bad-requires-2 : tie.Need-bad-requires-2
-bad-requires-2 c κs = search needs
+bad-requires-2 c κs = tt
 
 returns-3 : tie.Need-returns-3
 returns-3 c = λ f. no-answers _ _ _ _ _ _ _ _ _ (signed-minus _ _ _ _ _ _ (scanned _ _ _ _ (c .before .before .before .before .before .before .before .before .before .next-from .ensures) (c .before .before .before .before .before .before .before .st .given .1)) (c .before .before .before .before .if1 .left) ∙ negated-bad _ _ _ _ _ (scanned-bad _ _ _ (c .before .before .before .next .ensures) (c .before .enum-told2 .given .1))) (bad-is _ _ _ (c .before .enum-told2 .given .1) (c .bad2 .ensures))
 
 most-signed-requires-2 : tie.Need-most-signed-requires-2
-most-signed-requires-2 c κs = search needs
+most-signed-requires-2 c κs = tt
 
 read-integer-requires-2 : tie.Need-read-integer-requires-2
 read-integer-requires-2 c κs =

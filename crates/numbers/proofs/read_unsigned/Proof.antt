@@ -22,13 +22,13 @@ enum-told : tie.Need-enum-told
 enum-told c = search needs
 
 bad-requires : tie.Need-bad-requires
-bad-requires c κs = search needs
+bad-requires c κs = tt
 
 returns : tie.Need-returns
 returns c = λ f. no-answers _ _ _ _ _ _ _ _ _ (unsigned-bad _ _ _ _ _ (scanned-bad _ _ _ (c .before .before .before .next-from .ensures) (c .before .enum-told .given .1))) (bad-is _ _ _ (c .before .enum-told .given .1) (c .bad .ensures))
 
 most-unsigned-requires : tie.Need-most-unsigned-requires
-most-unsigned-requires c κs = search needs
+most-unsigned-requires c κs = tt
 
 read-integer-requires : tie.Need-read-integer-requires
 read-integer-requires c κs = (c .before .before .before .before .before .before .before .before .pre .2, reached _ _ _ _ (c .before .before .before .before .before .before .before .before .pre .1 .inside) (scanned _ _ _ _ (c .before .before .before .before .before .next-from .ensures) (c .before .before .before .st .given .1)))

@@ -8,10 +8,10 @@ use Rattle.parse.proofs.read_text.Statement.{statement}
 use Rattle.parse.proofs.read_text.Tie as tie
 
 table-requires : tie.Need-table-requires
-table-requires c κs = search needs
+table-requires c κs = tt
 
 escapes-requires : tie.Need-escapes-requires
-escapes-requires c κs = search needs
+escapes-requires c κs = tt
 
 slice-relend-prefix-read-root : tie.Need-slice-relend-prefix-read-root
 slice-relend-prefix-read-root c = search needs
@@ -35,7 +35,7 @@ enum-told : tie.Need-enum-told
 enum-told c = search needs
 
 refusal-requires : tie.Need-refusal-requires
-refusal-requires c κs = search needs
+refusal-requires c κs = tt
 
 same-length : tie.Need-same-length
 same-length c = search needs
@@ -47,7 +47,7 @@ returns : tie.Need-returns
 returns c = ends-no (now (c .before .before .before .before .before .before .before .before .before .before .before .before .before .before .before .before .before .before .args .image)) (c .before .before .before .before .before .before .before .before .before .before .before .before .before .before .before .before .before .before .args .root) (now (c .before .before .before .before .before .before .before .before .before .before .before .before .before .before .before .before .before .before .args .s)) (now (c .before .before .before .before .before .before .before .before .before .before .before .before .before .before .before .before .before .before .args .nodes)) (now (c .before .before .before .before .before .before .before .before .before .before .before .before .before .before .before .before .before .before .args .pool)) _ _ _ _ _ (c .before .before .before .before .before .before .before .read-root .ensures) _ _ (empty-part (c .before .before .before .before .before .before .before .read-root .last .1 .1 .1 .1 .1 .1 .0) (c .before .before .before .before .before .before .before .before .before .before .before .before .before .before .before .before .before .before .args .nodes .now) (c .before .before .before .before .before .before .before .read-root .kept .1 .1 .1 .1 .1 .1 .0)) (empty-part (c .before .before .before .before .before .before .before .read-root .last .1 .1 .1 .1 .1 .1 .1 .0) (c .before .before .before .before .before .before .before .before .before .before .before .before .before .before .before .before .before .before .args .pool .now) (c .before .before .before .before .before .before .before .read-root .kept .1 .1 .1 .1 .1 .1 .1 .0)) _ _ (c .before .enum-told .given .1) _ (c .refusal .ensures)
 
 node-room-requires : tie.Need-node-room-requires
-node-room-requires c κs = search needs
+node-room-requires c κs = tt
 
 same-length-3 : tie.Need-same-length-3
 same-length-3 c = search needs

@@ -16,7 +16,7 @@ enum-told : tie.Need-enum-told
 enum-told c = search needs
 
 bad-requires : tie.Need-bad-requires
-bad-requires c κs = search needs
+bad-requires c κs = tt
 
 returns : tie.Need-returns
 returns c = no-answers _ _ _ _ _ _ _ _ _ (colon-bad _ _ _ _ _ (scanned-bad _ _ _ (c .before .before .before .colon-from .ensures) (c .before .enum-told .given .1))) (bad-is _ _ _ (c .before .enum-told .given .1) (c .bad .ensures))

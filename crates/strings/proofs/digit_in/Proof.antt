@@ -1,18 +1,17 @@
 -- `strings::digit_in` meets its contract: the test that the flag picks.
-use borrow.Author.Needs.{needs}
 use Rattle.strings.specs.Values.{digitIn}
 use Rattle.strings.proofs.digit_in.Statement.{statement}
 use Rattle.strings.proofs.digit_in.Tie as tie
 
 hex-digit-requires : tie.Need-hex-digit-requires
-hex-digit-requires c κs = search needs
+hex-digit-requires c κs = tt
 
 returns : tie.Need-returns
 unfolding digitIn
 returns c = rw (c .before .if1 .taken) (c .hex-digit .ensures)
 
 octal-digit-requires : tie.Need-octal-digit-requires
-octal-digit-requires c κs = search needs
+octal-digit-requires c κs = tt
 
 returns-2 : tie.Need-returns-2
 unfolding digitIn

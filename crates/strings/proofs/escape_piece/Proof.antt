@@ -15,7 +15,7 @@ shared-slice-read-b : tie.Need-shared-slice-read-b
 shared-slice-read-b c = search needs
 
 octal-digit-requires : tie.Need-octal-digit-requires
-octal-digit-requires c κs = search needs
+octal-digit-requires c κs = tt
 
 run-requires : tie.Need-run-requires
 run-requires c κs = search needs

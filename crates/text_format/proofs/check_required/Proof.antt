@@ -1,6 +1,5 @@
 -- `text_format::check_required` meets its contract.
 use denote.Ref.{now}
-use borrow.Author.Needs.{needs}
 use mathlib.Core.Path.{_≡_, refl, sym, _∙_}
 use native.Mathlib.Omega.{arith}
 use borrow.Author.Tests.{not-true, not-false}
@@ -15,7 +14,7 @@ use Rattle.records.proofs.layout_of.Reads as layout-of-reads
 use Rattle.text_format.proofs.table_bar.Reads as table-bar-reads
 
 table-bar-requires : tie.Need-table-bar-requires
-table-bar-requires c κs = search needs
+table-bar-requires c κs = tt
 
 returns : tie.Need-returns
 returns c = required-barred (now (c .before .before .before .before .before .args .image)) (c .before .before .before .before .before .args .root) (now (c .before .before .before .before .before .args .nodes)) (now (c .before .before .before .before .before .args .pool)) _ (bar-some (now (c .before .before .before .before .before .args .image)) (c .before .before .before .before .before .args .root) (now (c .before .before .before .before .before .args .nodes)) (now (c .before .before .before .before .before .args .pool)) _ (c .before .table-bar .ensures) (c .if1 .taken))

@@ -4,7 +4,7 @@ use Rattle.text_format.proofs.print.Statement.{statement}
 use Rattle.text_format.proofs.print.Tie as tie
 
 print-styled-requires : tie.Need-print-styled-requires
-print-styled-requires c κs = search needs
+print-styled-requires c κs = tt
 
 same-length : tie.Need-same-length
 same-length c = search needs

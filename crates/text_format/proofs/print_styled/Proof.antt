@@ -16,7 +16,7 @@ use Rattle.records.proofs.layout_of.Reads as layout-of-reads
 use Rattle.text_format.proofs.table_bar.Reads as table-bar-reads
 
 table-bar-requires : tie.Need-table-bar-requires
-table-bar-requires c κs = search needs
+table-bar-requires c κs = tt
 
 returns : tie.Need-returns
 returns c = print-barred (now (c .before .before .before .before .before .before .args .image)) (styleOf (c .before .before .before .before .before .before .args .pretty)) (c .before .before .before .before .before .before .args .root) (now (c .before .before .before .before .before .before .args .nodes)) (now (c .before .before .before .before .before .before .args .pool)) (now (c .before .before .before .before .before .before .args .buffer)) _ (bar-some (now (c .before .before .before .before .before .before .args .image)) (c .before .before .before .before .before .before .args .root) (now (c .before .before .before .before .before .before .args .nodes)) (now (c .before .before .before .before .before .before .args .pool)) _ (c .before .table-bar .ensures) (c .if1 .taken))

@@ -16,7 +16,7 @@ use Rattle.records.proofs.layout_of.Reads as layout-of-reads
 use Rattle.records.proofs.message_count.Reads as message-count-reads
 
 check-requires : tie.Need-check-requires
-check-requires c κs = search needs
+check-requires c κs = tt
 
 returns : tie.Need-returns
 returns c = ends-schema (now (c .before .before .before .before .before .before .args .image)) (c .before .before .before .before .before .before .args .root) (now (c .before .before .before .before .before .before .args .text)) (now (c .before .before .before .before .before .before .args .nodes)) (now (c .before .before .before .before .before .before .args .pool)) (sym (not-true _ (c .if1 .taken)) ∙ c .before .check .ensures)

@@ -1,6 +1,5 @@
 -- `text_format::table_bar` meets its contract.
 use denote.Ref.{now}
-use borrow.Author.Needs.{needs}
 use mathlib.Core.Path.{_≡_, refl, sym, _∙_}
 use native.Mathlib.Omega.{arith}
 use borrow.Author.Tests.{not-true, not-false}
@@ -16,7 +15,7 @@ use Rattle.records.proofs.layout_of.Reads as layout-of-reads
 use Rattle.records.proofs.message_count.Reads as message-count-reads
 
 check-requires : tie.Need-check-requires
-check-requires c κs = search needs
+check-requires c κs = tt
 
 returns : tie.Need-returns
 returns c = bar-schema (now (c .before .before .before .before .before .args .image)) (c .before .before .before .before .before .args .root) (now (c .before .before .before .before .before .args .nodes)) (now (c .before .before .before .before .before .args .pool)) (sym (not-true _ (c .if1 .taken)) ∙ c .before .check .ensures)

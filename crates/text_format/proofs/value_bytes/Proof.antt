@@ -15,7 +15,7 @@ use Rattle.message.proofs.access.value_bytes.Reads as value-bytes-reads
 use Rattle.text_format.proofs.table_bar.Reads as table-bar-reads
 
 table-bar-requires : tie.Need-table-bar-requires
-table-bar-requires c κs = search needs
+table-bar-requires c κs = tt
 
 slice-aggregate-result : tie.Need-slice-aggregate-result
 slice-aggregate-result c = search needs

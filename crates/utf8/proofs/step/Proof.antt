@@ -6,7 +6,7 @@ use Rattle.utf8.proofs.step.Statement.{statement}
 use Rattle.utf8.proofs.step.Tie as tie
 
 lead-requires : tie.Need-lead-requires
-lead-requires c κs = search needs
+lead-requires c κs = tt
 
 returns : tie.Need-returns
 returns c = c .lead .ensures ∙ sym (step-lead _ _ (c .before .if1 .taken))
@@ -21,7 +21,7 @@ sub-awaits : tie.Need-sub-awaits
 sub-awaits c = search needs
 
 awaits-requires : tie.Need-awaits-requires
-awaits-requires c κs = search needs
+awaits-requires c κs = tt
 
 returns-4 : tie.Need-returns-4
 returns-4 c = c .awaits .ensures ∙ sym (step-on _ _ (c .before .before .before .before .before .before .if1 .left) (c .before .before .before .before .if2 .left) (c .before .before .if3 .left))

@@ -10,7 +10,7 @@ cast-i : tie.Need-cast-i
 cast-i c = search needs
 
 is-unknown-requires : tie.Need-is-unknown-requires
-is-unknown-requires c κs = search needs
+is-unknown-requires c κs = tt
 
 returns : tie.Need-returns
 returns c = unknown-entry _ _ _ (sym (c .before .before .before .is-unknown .ensures) ∙ c .before .before .if1 .taken) (c .if2 .taken)

@@ -10,7 +10,7 @@ use Rattle.validity.proofs.is_valid.Statement.{statement}
 use Rattle.validity.proofs.is_valid.Tie as tie
 
 root-good-requires : tie.Need-root-good-requires
-root-good-requires c κs = search needs
+root-good-requires c κs = tt
 
 returns : tie.Need-returns
 returns c = valid-no _ _ _ _ (sym (c .before .root-good .ensures) ∙ not-true _ (c .if1 .taken))
@@ -22,7 +22,7 @@ cast-end : tie.Need-cast-end
 cast-end c = search needs
 
 root-want-requires : tie.Need-root-want-requires
-root-want-requires c κs = search needs
+root-want-requires c κs = tt
 
 span-good-requires : tie.Need-span-good-requires
 span-good-requires c κs =

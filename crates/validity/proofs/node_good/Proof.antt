@@ -22,13 +22,13 @@ returns-3 : tie.Need-returns-3
 returns-3 c = node-field _ _ _ _ _ _ (sym (c .before .field-fits .ensures) ∙ not-true _ (c .if3 .taken))
 
 value-good-requires : tie.Need-value-good-requires
-value-good-requires c κs = search needs
+value-good-requires c κs = tt
 
 returns-4 : tie.Need-returns-4
 returns-4 c = node-value _ _ _ _ _ _ (sym (c .before .value-good .ensures) ∙ not-true _ (c .if4 .taken))
 
 nests-requires : tie.Need-nests-requires
-nests-requires c κs = search needs
+nests-requires c κs = tt
 
 returns-5 : tie.Need-returns-5
 returns-5 c = node-nests _ _ _ _ _ _ (c .before .before .before .before .before .before .before .if1 .left) (c .before .before .before .before .before .before .if2 .left) (sym (c .before .before .before .before .before .field-fits .ensures) ∙ not-false _ (c .before .before .before .before .if3 .left)) (sym (c .before .before .before .value-good .ensures) ∙ not-false _ (c .before .before .if4 .left)) (sym (c .before .nests .ensures) ∙ c .if5 .taken)

@@ -30,7 +30,7 @@ part-is-utf8-end : tie.Need-part-is-utf8-end
 part-is-utf8-end c = search needs
 
 is-utf8-requires : tie.Need-is-utf8-requires
-is-utf8-requires c κs = search needs
+is-utf8-requires c κs = tt
 
 returns-3 : tie.Need-returns-3
 returns-3 c = c .is-utf8 .ensures ∙ run-string _ _ (c .before .before .before .before .if1 .left) (c .before .before .if2 .left)

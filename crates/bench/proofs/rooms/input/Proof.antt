@@ -1,5 +1,4 @@
 -- `bench::rooms::input` has the length that it says. Assumes nothing.
-use borrow.Author.Needs.{needs}
 use mathlib.Core.Path.{sym}
 use Prim.Native.Nat.{ℕ}
 use lib.ListN.{length-replicate}

@@ -14,7 +14,7 @@ put-slice-requires : tie.Need-put-slice-requires
 put-slice-requires c κs = plain-first _ _ _ _ (c .before .before .before .before .before .pre .1 .flat) (c .before .before .before .before .before .pre .2)
 
 is-run-requires : tie.Need-is-run-requires
-is-run-requires c κs = search needs
+is-run-requires c κs = tt
 
 run-requires : tie.Need-run-requires
 run-requires c κs = c .before .before .before .before .before .before .before .before .before .before .pre .1 .inside (sym (c .before .is-run .ensures) ∙ c .if1 .taken)

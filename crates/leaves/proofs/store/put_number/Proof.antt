@@ -28,7 +28,7 @@ cast-t17 : tie.Need-cast-t17
 cast-t17 c = search needs
 
 put-requires : tie.Need-put-requires
-put-requires c κs = search needs
+put-requires c κs = tt
 
 add-t16-2 : tie.Need-add-t16-2
 add-t16-2 c = search needs

@@ -3,7 +3,6 @@ use mathlib.Core.Path.{_≡_, refl, _∙_, sym}
 use Prim.Native.Nat.{_+_, _-_}
 use native.Mathlib.Omega.{arith}
 use lib.ListN.{length, drop}
-use borrow.Author.Needs.{needs}
 use borrow.Author.Tests.{not-true, not-false}
 use Rattle.definitions.specs.Integers.{front, hexDigit}
 use Rattle.laws.proofs.Tests.{front-on, front-stop, front-end}
@@ -23,7 +22,7 @@ shared-slice-read-hex-digit : tie.Need-shared-slice-read-hex-digit Inv-loop μ-l
 shared-slice-read-hex-digit c = omega arith
 
 hex-digit-requires : tie.Need-hex-digit-requires Inv-loop μ-loop
-hex-digit-requires c κs = search needs
+hex-digit-requires c κs = tt
 
 returns : tie.Need-returns Inv-loop μ-loop
 returns c = front-stop hexDigit _ _ (c .before .before .before .loop-test .taken) (sym (c .before .hex-digit .ensures) ∙ not-true _ (c .if1 .taken)) ∙ c .before .before .before .before .loop .inv

@@ -17,7 +17,7 @@ add-digits-end : tie.Need-add-digits-end
 add-digits-end c = search needs
 
 digits-end-requires : tie.Need-digits-end-requires
-digits-end-requires c κs = search needs
+digits-end-requires c κs = tt
 
 returns-2 : tie.Need-returns-2
 returns-2 c = omega (arith, c .digits-end .ensures, decimal (c .before .before .before .args .first) (drop (c .before .before .before .args .at + 1) (c .before .before .before .args .text .now)) (c .before .if1 .left))

@@ -3,7 +3,6 @@ use mathlib.Core.Path.{_≡_, refl, _∙_, ap}
 use Prim.Native.Nat.{_-_}
 use native.Mathlib.Omega.{arith}
 use lib.ListN.{length}
-use borrow.Author.Needs.{needs}
 use Rattle.definitions.specs.Tokens.{skip}
 use Rattle.lexer.proofs.Laws.{skip-end, skip-below, skip-above, skip-comment, skip-blank}
 use Rattle.lexer.proofs.tokens.skip.Statement.{statement}
@@ -34,7 +33,7 @@ add-i : tie.Need-add-i Inv-loop μ-loop
 add-i c = omega arith
 
 comment-end-requires : tie.Need-comment-end-requires Inv-loop μ-loop
-comment-end-requires c κs = search needs
+comment-end-requires c κs = tt
 
 loop-less : tie.Need-loop-less Inv-loop μ-loop
 loop-less c = omega (arith, c .comment-end .ensures)

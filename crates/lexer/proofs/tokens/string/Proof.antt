@@ -19,13 +19,13 @@ enum-told : tie.Need-enum-told
 enum-told c = search needs
 
 bad-requires : tie.Need-bad-requires
-bad-requires c κs = search needs
+bad-requires c κs = tt
 
 returns : tie.Need-returns
 returns c = c .bad .ensures ∙ ap stepOf (string-bad (c .before .before .before .before .before .args .quote) (c .before .before .before .before .before .args .text .now) (c .before .before .before .before .before .args .at) (sym (c .before .before .before .string-end .ensures) ∙ c .before .enum-told .given .1))
 
 token-requires : tie.Need-token-requires
-token-requires c κs = search needs
+token-requires c κs = tt
 
 returns-2 : tie.Need-returns-2
 returns-2 c = c .token .ensures ∙ ap stepOf (string-good (c .before .before .before .before .before .before .args .quote) (c .before .before .before .before .before .before .args .text .now) (c .before .before .before .before .before .before .args .at) _ (sym (c .before .before .before .before .string-end .ensures) ∙ c .before .before .next .given .1))

@@ -4,7 +4,6 @@ use mathlib.Core.Bool.{false, true}
 use Prim.Native.Nat.{ℕ, _-_, _≤_}
 use native.Mathlib.Omega.{arith}
 use lib.ListN.{length}
-use borrow.Author.Needs.{needs}
 use Rattle.lexer.proofs.Laws.{closeAt, close-end, close-break, string-closed, string-plain, string-other, string-slash, string-taken}
 use Rattle.lexer.proofs.tokens.string_end.Statement.{statement}
 use Rattle.lexer.proofs.tokens.string_end.Tie as tie
@@ -31,7 +30,7 @@ returns : tie.Need-returns Inv-loop μ-loop
 returns c = string-closed _ (c .before .before .before .before .before .before .before .pre .1) _ _ (c .before .before .before .before .loop-test .taken) (c .if2 .taken) ∙ c .before .before .before .before .before .loop .inv
 
 breaks-requires : tie.Need-breaks-requires Inv-loop μ-loop
-breaks-requires c κs = search needs
+breaks-requires c κs = tt
 
 returns-2 : tie.Need-returns-2 Inv-loop μ-loop
 returns-2 c = close-break _ false _ _ (c .before .before .before .before .before .before .loop-test .taken) (sym (c .before .breaks .ensures) ∙ c .if3 .taken) ∙ c .before .before .before .before .before .before .before .loop .inv
@@ -46,7 +45,7 @@ shared-slice-read-breaks : tie.Need-shared-slice-read-breaks Inv-loop μ-loop
 shared-slice-read-breaks c = omega arith
 
 breaks-requires-2 : tie.Need-breaks-requires-2 Inv-loop μ-loop
-breaks-requires-2 c κs = search needs
+breaks-requires-2 c κs = tt
 
 returns-4 : tie.Need-returns-4 Inv-loop μ-loop
 returns-4 c =

@@ -19,13 +19,13 @@ add-hex-end : tie.Need-add-hex-end
 add-hex-end c = search needs
 
 hex-end-requires : tie.Need-hex-end-requires
-hex-end-requires c κs = search needs
+hex-end-requires c κs = tt
 
 add-if2 : tie.Need-add-if2
 add-if2 c = search needs
 
 digits-end-requires : tie.Need-digits-end-requires
-digits-end-requires c κs = search needs
+digits-end-requires c κs = tt
 
 returns-2 : tie.Need-returns-2
 returns-2 c = omega (arith, c .before .hex-end .ensures, zero-alone (c .before .before .before .before .before .before .args .text .now) (c .before .before .before .before .before .before .args .at + 1) (c .before .before .before .before .if1 .left) (c .before .before .match .keys1) (omega (arith, c .before .hex-end .ensures)))

@@ -20,7 +20,7 @@ node-requires-2 : tie.Need-node-requires-2
 node-requires-2 c κs = let r = root-parts _ (c .before .before .before .before .pre) in omega (arith, r .room, root-end _ _ (c .before .before .node .ensures), c .if1 .left)
 
 is-run-requires : tie.Need-is-run-requires
-is-run-requires c κs = search needs
+is-run-requires c κs = tt
 
 cast-t8 : tie.Need-cast-t8
 cast-t8 c = search needs

@@ -20,7 +20,7 @@ node-requires : tie.Need-node-requires Inv-loop μ-loop
 node-requires c κs = omega (arith, c .before .before .before .pre .1, c .loop-test .taken)
 
 rank-requires : tie.Need-rank-requires Inv-loop μ-loop
-rank-requires c κs = search needs
+rank-requires c κs = tt
 
 returns : tie.Need-returns Inv-loop μ-loop
 returns c = seek-found _ _ _ _ _ (c .before .before .before .before .loop .inv) (c .before .before .before .loop-test .taken) _ (c .before .before .node .ensures) (sym (c .before .rank .ensures) ∙ c .if1 .taken)

@@ -18,7 +18,7 @@ cast-end : tie.Need-cast-end
 cast-end c = search needs
 
 root-want-requires : tie.Need-root-want-requires
-root-want-requires c κs = search needs
+root-want-requires c κs = tt
 
 is-complete-requires : tie.Need-is-complete-requires
 is-complete-requires c κs = (

@@ -9,7 +9,7 @@ node-requires : tie.Need-node-requires
 node-requires c κs = whole-room _ _ _ _ (c .before .before .before .before .pre .2)
 
 root-want-requires : tie.Need-root-want-requires
-root-want-requires c κs = search needs
+root-want-requires c κs = tt
 
 cast-t11 : tie.Need-cast-t11
 cast-t11 c = search needs

@@ -23,7 +23,7 @@ enum-told : tie.Need-enum-told
 enum-told c = search needs
 
 bad-requires : tie.Need-bad-requires
-bad-requires c κs = search needs
+bad-requires c κs = tt
 
 returns : tie.Need-returns
 returns c = λ f. no-answers _ _ _ _ _ _ _ _ _ (bool-bad _ _ _ _ (scanned-bad _ _ _ (c .before .before .before .next-from .ensures) (c .before .enum-told .given .1))) (bad-is _ _ _ (c .before .enum-told .given .1) (c .bad .ensures))
@@ -44,7 +44,7 @@ part-same-end : tie.Need-part-same-end
 part-same-end c = let z = reached _ _ _ _ (c .before .before .before .before .before .before .before .before .before .before .pre .1 .inside) (scanned _ _ _ _ (c .before .before .before .before .before .before .before .next-from .ensures) (c .before .before .before .before .before .st .given .1)) in omega (arith, z .forward, z .inside)
 
 same-requires : tie.Need-same-requires
-same-requires c κs = search needs
+same-requires c κs = tt
 
 put-number-requires : tie.Need-put-number-requires
 put-number-requires c κs = search needs
@@ -68,7 +68,7 @@ part-same-end-2 : tie.Need-part-same-end-2
 part-same-end-2 c = let z = reached _ _ _ _ (c .before .before .before .before .before .before .before .before .before .before .before .before .before .before .pre .1 .inside) (scanned _ _ _ _ (c .before .before .before .before .before .before .before .before .before .before .before .next-from .ensures) (c .before .before .before .before .before .before .before .before .before .st .given .1)) in omega (arith, z .forward, z .inside)
 
 same-requires-2 : tie.Need-same-requires-2
-same-requires-2 c κs = search needs
+same-requires-2 c κs = tt
 
 put-number-requires-2 : tie.Need-put-number-requires-2
 put-number-requires-2 c κs = search needs

@@ -26,7 +26,7 @@ enum-told : tie.Need-enum-told
 enum-told c = search needs
 
 bad-requires : tie.Need-bad-requires
-bad-requires c κs = search needs
+bad-requires c κs = tt
 
 returns : tie.Need-returns
 returns c = λ f. no-answers _ _ _ _ _ _ _ _ _ (enum-bad _ _ _ _ _ (scanned-bad _ _ _ (c .before .before .before .next-from .ensures) (c .before .enum-told .given .1))) (bad-is _ _ _ (c .before .enum-told .given .1) (c .bad .ensures))
@@ -59,7 +59,7 @@ member-requires : tie.Need-member-requires
 member-requires c κs = (known-placed (c .before .before .before .before .before .before .before .before .before .before .before .before .before .before .before .pre .1), member-found _ (c .before .before .before .before .before .before .before .before .before .before .before .before .before .before .before .pre .1 .good) _ _ (c .before .before .before .before .before .before .before .before .before .before .before .before .before .before .before .pre .4 .enums (c .before .before .before .before .before .before .before .before .before .before .before .before .before .before .before .pre .5)) _ (found-is _ _ (sym (c .before .i .given .1) ∙ c .before .before .before .find-member .ensures)) .0 .below)
 
 widened-requires : tie.Need-widened-requires
-widened-requires c κs = search needs
+widened-requires c κs = tt
 
 put-number-requires : tie.Need-put-number-requires
 put-number-requires c κs = search needs

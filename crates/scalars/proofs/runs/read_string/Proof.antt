@@ -24,7 +24,7 @@ enum-told : tie.Need-enum-told
 enum-told c = search needs
 
 bad-requires : tie.Need-bad-requires
-bad-requires c κs = search needs
+bad-requires c κs = tt
 
 returns : tie.Need-returns
 returns c = no-answers _ _ _ _ _ _ _ _ _ (string-bad _ _ _ _ (scanned-bad _ _ _ (c .before .before .before .next-from .ensures) (c .before .enum-told .given .1))) (bad-is _ _ _ (c .before .enum-told .given .1) (c .bad .ensures))
@@ -66,7 +66,7 @@ returns-3 : tie.Need-returns-3
 returns-3 c = no-answers _ _ _ _ _ _ _ _ _ (string-undecoded _ _ _ _ _ (scanned _ _ _ _ (c .before .before .before .before .before .before .before .before .before .before .before .before .before .before .before .next-from .ensures) (c .before .before .before .before .before .before .before .before .before .before .before .before .before .st .given .1)) (c .before .before .before .before .before .before .before .before .before .if1 .left) (undecoded-is _ (sym (c .enum-told2 .given .1) ∙ c .before .before .before .before .decode .ensures .0))) refl
 
 is-broken-requires : tie.Need-is-broken-requires
-is-broken-requires c κs = search needs
+is-broken-requires c κs = tt
 
 same-length-2 : tie.Need-same-length-2
 same-length-2 c = search needs
@@ -98,7 +98,7 @@ cast-t34 : tie.Need-cast-t34
 cast-t34 c = omega (arith, c .before .before .before .before .before .before .before .before .before .before .before .before .before .before .before .before .before .before .before .before .before .before .before .before .before .pre .2 .node)
 
 put-requires : tie.Need-put-requires
-put-requires c κs = search needs
+put-requires c κs = tt
 
 add-t21-2 : tie.Need-add-t21-2
 add-t21-2 c = omega (arith, c .before .before .before .before .before .before .before .before .before .before .before .before .before .before .before .before .before .before .before .before .before .before .before .before .before .before .before .before .pre .2 .node)

@@ -34,7 +34,7 @@ slice-read-value : tie.Need-slice-read-value Inv-loop μ-loop
 slice-read-value c = search needs
 
 value-requires : tie.Need-value-requires Inv-loop μ-loop
-value-requires c κs = search needs
+value-requires c κs = tt
 
 mul-value-2 : tie.Need-mul-value-2 Inv-loop μ-loop
 mul-value-2 c = search needs
@@ -46,7 +46,7 @@ slice-read-value-2 : tie.Need-slice-read-value-2 Inv-loop μ-loop
 slice-read-value-2 c = search needs
 
 value-requires-2 : tie.Need-value-requires-2 Inv-loop μ-loop
-value-requires-2 c κs = search needs
+value-requires-2 c κs = tt
 
 same-length : tie.Need-same-length Inv-loop μ-loop
 same-length c = search needs

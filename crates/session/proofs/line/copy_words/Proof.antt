@@ -13,7 +13,7 @@ abbrev μ-loop : tie.MeasureT-loop
 μ-loop from to₀ n i₀ to i = n - i
 
 least-requires : tie.Need-least-requires Inv-loop μ-loop
-least-requires c κs = search needs
+least-requires c κs = tt
 
 loop-holds : tie.Need-loop-holds Inv-loop μ-loop
 loop-holds c = search needs

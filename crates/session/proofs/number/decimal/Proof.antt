@@ -33,7 +33,7 @@ mul-tens : tie.Need-mul-tens Inv-loop μ-loop
 mul-tens c = search needs
 
 wide-requires : tie.Need-wide-requires Inv-loop μ-loop
-wide-requires c κs = search needs
+wide-requires c κs = tt
 
 sub-if5 : tie.Need-sub-if5 Inv-loop μ-loop
 sub-if5 c = search needs

@@ -15,7 +15,7 @@ slice-aggregate-decimal : tie.Need-slice-aggregate-decimal
 slice-aggregate-decimal c = sym (length-take-le _ _ (search needs))
 
 decimal-requires : tie.Need-decimal-requires
-decimal-requires c κs = search needs
+decimal-requires c κs = tt
 
 enum-known-n : tie.Need-enum-known-n
 enum-known-n c = search needs

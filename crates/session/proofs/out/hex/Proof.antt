@@ -27,7 +27,7 @@ shared-slice-read-hex-byte : tie.Need-shared-slice-read-hex-byte Inv-loop μ-loo
 shared-slice-read-hex-byte c = search needs
 
 hex-byte-requires : tie.Need-hex-byte-requires Inv-loop μ-loop
-hex-byte-requires c κs = search needs
+hex-byte-requires c κs = tt
 
 add-i : tie.Need-add-i Inv-loop μ-loop
 add-i c = search needs

@@ -30,7 +30,7 @@ shared-slice-read-hex-word : tie.Need-shared-slice-read-hex-word Inv-loop μ-loo
 shared-slice-read-hex-word c = search needs
 
 hex-word-requires : tie.Need-hex-word-requires Inv-loop μ-loop
-hex-word-requires c κs = search needs
+hex-word-requires c κs = tt
 
 add-i : tie.Need-add-i Inv-loop μ-loop
 add-i c = search needs

@@ -15,7 +15,7 @@ abbrev μ-loop : tie.MeasureT-loop
 μ-loop n buffer₀ at end k₀ left₀ buffer k left = left
 
 decimal-length-requires : tie.Need-decimal-length-requires Inv-loop μ-loop
-decimal-length-requires c κs = search needs
+decimal-length-requires c κs = tt
 
 add-end : tie.Need-add-end Inv-loop μ-loop
 add-end c = omega (arith, c .decimal-length .ensures, c .before .before .pre .fits)

@@ -8,13 +8,13 @@ use Rattle.lexer.proofs.tokens.Cursor.colon_from.Statement.{statement}
 use Rattle.lexer.proofs.tokens.Cursor.colon_from.Tie as tie
 
 is-colon-requires : tie.Need-is-colon-requires
-is-colon-requires c κs = search needs
+is-colon-requires c κs = tt
 
 add-next : tie.Need-add-next
 add-next c = let h = colon-there (c .before .before .before .args .text .now) (c .before .before .before .args .q .at) _ (c .before .is-colon .ensures) (c .if1 .taken) in omega (arith, h .0)
 
 token-requires : tie.Need-token-requires
-token-requires c κs = search needs
+token-requires c κs = tt
 
 returns : tie.Need-returns
 returns c =

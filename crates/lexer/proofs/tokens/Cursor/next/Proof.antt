@@ -11,7 +11,7 @@ skip-requires : tie.Need-skip-requires
 skip-requires c κs = c .before .pre
 
 token-requires : tie.Need-token-requires
-token-requires c κs = search needs
+token-requires c κs = tt
 
 returns : tie.Need-returns
 returns c = c .token .ensures ∙ ap stepOf (from-end _ _ (c .before .if1 .taken) ∙ scan-at _ _ _ (c .before .before .skip .ensures))
@@ -29,7 +29,7 @@ name-end-requires : tie.Need-name-end-requires
 name-end-requires c κs = c .before .before .before .before .before .before .pre
 
 token-requires-2 : tie.Need-token-requires-2
-token-requires-2 c κs = search needs
+token-requires-2 c κs = tt
 
 integer-requires : tie.Need-integer-requires
 integer-requires c κs = (c .before .before .before .before .before .before .pre, search needs)
@@ -41,10 +41,10 @@ add-token : tie.Need-add-token
 add-token c = search needs
 
 token-requires-3 : tie.Need-token-requires-3
-token-requires-3 c κs = search needs
+token-requires-3 c κs = tt
 
 bad-requires : tie.Need-bad-requires
-bad-requires c κs = search needs
+bad-requires c κs = tt
 
 returns-2 : tie.Need-returns-2
 returns-2 c =

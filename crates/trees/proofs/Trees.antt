@@ -18,8 +18,8 @@ use Rattle.definitions.specs.Utf8.{utf8}
 use Rattle.definitions.specs.Live.{Val, number, run, inside, Tree, nil, node}
 use Rattle.laws.proofs.Ranges.{SignedIn}
 use Rattle.laws.proofs.Lists.{and-parts, and-made, true-false, AreBytes}
-use Rattle.compatibility.proofs.Accepted.{Accepted, In, field-within, field-known, field-key, field-type, field-identifier}
-use Rattle.compatibility.proofs.Extends.{Extends, SameField, known-field}
+use Rattle.trees.proofs.Accepted.{Accepted, In, field-within, field-known, field-key, field-type, field-identifier}
+use Rattle.trees.proofs.Extends.{Extends, SameField, known-field}
 
 -- ---- values that fit
 

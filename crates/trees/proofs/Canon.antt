@@ -15,7 +15,7 @@ use Rattle.definitions.specs.Utf8.{utf8}
 use Rattle.definitions.specs.Live.{Val, number, run, inside, Tree, nil, node, firstUnknown, sameVal, has, keyOf, hasKey, sharing, replaced, insert, canon}
 use Rattle.laws.proofs.Ranges.{SignedIn}
 use Rattle.laws.proofs.Lists.{or-parts, or-made, AreBytes}
-use Rattle.compatibility.proofs.Trees.{Pair}
+use Rattle.trees.proofs.Trees.{Pair}
 
 -- ---- in order, and nothing replaced
 

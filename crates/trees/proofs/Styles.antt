@@ -12,7 +12,7 @@ use Rattle.definitions.specs.Integers.{runsOn}
 use Rattle.definitions.specs.Scope.{Scope, want, within}
 use Rattle.definitions.specs.Live.{Val, number, run, inside, Tree, nil, node}
 use Rattle.definitions.specs.Print.{Style, compact, pretty, indent, lead, trail, opening, closing, label, valueText, render}
-use Rattle.compatibility.proofs.Scanning.{blank}
+use Rattle.trees.proofs.Scanning.{blank}
 
 -- what follows an opening brace, and what stands before a closing one
 abbrev pub openGap : Style → List ℕ

@@ -21,9 +21,9 @@ use Rattle.definitions.specs.Validity.{inRange, runGood, valueGood, isNil, leaf
 use Rattle.definitions.specs.Live.{number, run, inside, nil, rankOf, valueOf, treeOf}
 use Rattle.laws.proofs.Ranges.{SignedIn, signedIn-64, numberOf-lt, in-inRange-i32, in-inRange-u32}
 use Rattle.laws.proofs.Lists.{and-parts, true-false, AreBytes, bytes-nil, bytes-cons, bytes-head, bytes-tail, bytes-drop}
-use Rattle.compatibility.proofs.Accepted.{Accepted, field-within, field-key, field-type}
-use Rattle.compatibility.proofs.Trees.{has-in, body-exists, not-entry, nests-is, nests-small}
-use Rattle.compatibility.proofs.Canon.{Both, Rough, roughI32, roughI64, roughU32, roughU64, roughBool, roughEnum, roughString, roughBytes, roughBody, roughEntry, Standing, strange, proper, Rugged}
+use Rattle.trees.proofs.Accepted.{Accepted, field-within, field-key, field-type}
+use Rattle.trees.proofs.Trees.{has-in, body-exists, not-entry, nests-is, nests-small}
+use Rattle.trees.proofs.Canon.{Both, Rough, roughI32, roughI64, roughU32, roughU64, roughBool, roughEnum, roughString, roughBytes, roughBody, roughEntry, Standing, strange, proper, Rugged}
 
 -- ---- bytes and words
 

@@ -24,7 +24,7 @@ use Rattle.laws.proofs.ClassTable.{digit-class}
 use Rattle.laws.proofs.Decimal.{Begins, decimal-begins, decimal-digits, scan-decimal, integerValue-decimal}
 use Rattle.laws.proofs.Ranges.{SignedIn, Printed, printedPlain, printedMinus, signedIn-printed}
 use Rattle.laws.proofs.Quoting.{scan-quoted, decode-quoteBytes}
-use Rattle.compatibility.proofs.Scanning.{blank, drop-on, scan-past, part-is, name-at, symbol-at}
+use Rattle.trees.proofs.Scanning.{blank, drop-on, scan-past, part-is, name-at, symbol-at}
 
 -- ---- integers
 

@@ -11,7 +11,7 @@ use Rattle.definitions.specs.Basics.{if_then_else_, same, all}
 use Rattle.definitions.specs.Image.{messageCount, enumCount, message, enumeration, field, member, fieldName, memberName, findField, findMember}
 use Rattle.definitions.specs.Extending.{sameField, embedded, messageExtends, sameMember, enumExtends, extends}
 use Rattle.laws.proofs.Lists.{and-parts, and-made, all-at, all-made, any-some, any-made, same-true, same-refl}
-use Rattle.compatibility.proofs.Accepted.{Accepted, In, field-one, found-field, member-one, found-member}
+use Rattle.trees.proofs.Accepted.{Accepted, In, field-one, found-field, member-one, found-member}
 
 -- ---- the same field, the same value
 

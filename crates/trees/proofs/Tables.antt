@@ -13,9 +13,9 @@ use Rattle.definitions.specs.Scope.{Scope, want, within, nests}
 use Rattle.definitions.specs.Nodes.{words, nodeAt, numberOf, runOf, isRun, isUnknown, empty, tree, grow, tileF}
 use Rattle.definitions.specs.Live.{Val, number, run, inside, Tree, nil, node, rankOf, valueOf, treeOf}
 use Rattle.laws.proofs.Ranges.{words-number}
-use Rattle.compatibility.specs.Laying.{relabel, rankUnder, size, highIn, lowIn, bytesIn, laidBytes, nodeLaid, laidWords, planted}
-use Rattle.compatibility.proofs.Scanning.{drop-on}
-use Rattle.compatibility.proofs.Trees.{Sound, soundI32, soundI64, soundU32, soundU64, soundBool, soundEnum, soundString, soundBytes, soundBody, soundEntry, Fits}
+use Rattle.trees.specs.Laying.{relabel, rankUnder, size, highIn, lowIn, bytesIn, laidBytes, nodeLaid, laidWords, planted}
+use Rattle.trees.proofs.Scanning.{drop-on}
+use Rattle.trees.proofs.Trees.{Sound, soundI32, soundI64, soundU32, soundU64, soundBool, soundEnum, soundString, soundBytes, soundBody, soundEntry, Fits}
 
 -- ---- kinds that go with their values
 

@@ -17,13 +17,13 @@ use Rattle.definitions.specs.Nodes.{nodeAt, tableEnd, runOf, isUnknown, grow, f
 use Rattle.definitions.specs.Utf8.{utf8}
 use Rattle.definitions.specs.Validity.{inRange, runGood, valueGood, isNil, leafGood, fieldFits, isPair, entryGood, forestGood, rootGood, below, valid}
 use Rattle.definitions.specs.Live.{Val, number, run, inside, Tree, nil, node}
-use Rattle.compatibility.specs.Laying.{size, bytesIn, laidBytes, nodeLaid, laidWords, tableOver, planted}
+use Rattle.trees.specs.Laying.{size, bytesIn, laidBytes, nodeLaid, laidWords, tableOver, planted}
 use Rattle.laws.proofs.Ranges.{SignedIn, inRange-i32, inRange-u32, inRange-enum}
 use Rattle.laws.proofs.Lists.{and-made, true-false}
-use Rattle.compatibility.proofs.Accepted.{or-true}
-use Rattle.compatibility.proofs.Trees.{Pair, Sound, soundI32, soundI64, soundU32, soundU64, soundBool, soundEnum, soundString, soundBytes, soundBody, soundEntry, Fits}
-use Rattle.compatibility.proofs.Canon.{Both}
-use Rattle.compatibility.proofs.Tables.{ShapedVal, own-bytes, kids-bytes, rest-bytes, grow-planted, tile-planted, length-laid}
+use Rattle.trees.proofs.Accepted.{or-true}
+use Rattle.trees.proofs.Trees.{Pair, Sound, soundI32, soundI64, soundU32, soundU64, soundBool, soundEnum, soundString, soundBytes, soundBody, soundEntry, Fits}
+use Rattle.trees.proofs.Canon.{Both}
+use Rattle.trees.proofs.Tables.{ShapedVal, own-bytes, kids-bytes, rest-bytes, grow-planted, tile-planted, length-laid}
 
 -- ---- what validity asks
 
