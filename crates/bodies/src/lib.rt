@@ -77,7 +77,7 @@ fn read_value_of_type(
     };
     let place = t.start;
     let closer = closer_of(w.kind, t.kind);
-    if closer == 0 {
+    if closer == tokens::END {
         return Answer::No(refusals::OTHER_EXPECTED, place);
     }
     if left == 0 {
@@ -108,7 +108,7 @@ fn read_value_of_type(
     Answer::Done(next)
 }
 
-// The closer that matches an opener, `{` or for a message also `<`; 0 for any other token.
+// The closer that matches an opener, `{` or for a message also `<`; the end of the text for any other token, which closes nothing.
 fn closer_of(kind: u8, opener: u8) -> u8
     ensures { λ r. ⌜ r ≡ closerFor kind opener ⌝ }
 {
@@ -120,7 +120,7 @@ fn closer_of(kind: u8, opener: u8) -> u8
             return tokens::CLOSE_ANGLE;
         }
     }
-    0
+    tokens::END
 }
 
 // Fields until the closer; an entry of a map gets its defaults there.

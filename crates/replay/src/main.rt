@@ -1,5 +1,5 @@
 // Answers requests of the line protocol on standard input, one line each, on standard output.
-use session::rooms;
+mod rooms;
 
 fn main() {
     let mut out = rooms::out();
