@@ -2,7 +2,7 @@
 import carries
 from compact import nodes_of, pool_of, pretty_of
 from images import *
-from lines import Requests, hexed
+from lines import Requests, hexed, placed
 from strangers import KINDS, PAIRS, kinds_outcome
 from trees import *
 
@@ -23,7 +23,10 @@ class Carrier:
         shown = SHOWN[style](marked)
         text, pool, nodes = shown.replace('@', ''), pool_of(marked), nodes_of(marked) + defaults
         room, words_, size = len(text) + spare[0], 5 * nodes + spare[1], len(pool) + spare[2]
-        told = f'read {number} {shown.index("@")}' if number else f'0 0 {nodes} {len(pool)} * {hexed(pool)}'
+        if number:
+            told = 'read ' + placed(f'{number} {shown.index("@")}', text)
+        else:
+            told = f'0 0 {nodes} {len(pool)} * {hexed(pool)}'
         self.out.carry(style, room, words_, size, self.answer(told, text, room))
 
     def both(self, marked, number=0, defaults=0):
@@ -36,8 +39,9 @@ class Carrier:
         self.both(marked, number, defaults)
 
     def refused(self, style, room, words_, size, told, shown=''):
-        """Which call refuses, number and place; and the text that then stands in the buffer."""
-        self.out.carry(style, room, words_, size, self.answer(told, shown, room))
+        """Which call refuses, its number and offset; and the text that then stands in the buffer."""
+        call, refusal = told.split(' ', 1)
+        self.out.carry(style, room, words_, size, self.answer(f'{call} {placed(refusal, shown)}', shown, room))
 
     @staticmethod
     def answer(told, shown, room):

@@ -10,6 +10,7 @@ import sys
 
 import carry
 import limit
+import places
 import protocol
 import reading
 import refusals
@@ -23,6 +24,7 @@ FILES = {
     'schema': schema.requests,
     'refusals': refusals.requests,
     'carry': carry.requests,
+    'places': places.requests,
     'protocol': protocol.requests,
     'limit': limit.texts,
     'wide': limit.wide,

@@ -105,6 +105,11 @@ def schema_x():
     return Image([X_FIELDS, X_SECOND, []], [OTHER_ENUM, MODE_ENUM])
 
 
+def schema_n():
+    """Schema N of the readings: messages in messages and in maps."""
+    return Image([[('m', 1, OPTIONAL, 0, MESSAGE, 0), ('mm', 2, MAP, STRING, MESSAGE, 0)]])
+
+
 KEYS = [I32, I64, U32, U64, BOOL, STRING]
 TYPES = [I32, I64, U32, U64, BOOL, STRING, BYTES, ENUM, MESSAGE]
 

@@ -7,7 +7,7 @@ import os
 
 FOLDER = os.path.dirname(os.path.abspath(__file__))
 CRATE = os.path.join(FOLDER, '..', '..', 'crates', 'replay')
-FILES = ['protocol', 'reading', 'table', 'schema', 'refusals', 'carry', 'sample', 'limit']
+FILES = ['protocol', 'reading', 'table', 'schema', 'refusals', 'carry', 'places', 'sample', 'limit']
 ANSWER = '#= '
 
 

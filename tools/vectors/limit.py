@@ -52,6 +52,10 @@ def wide():
     out.text(text + "s:''", 'read', 327675)
     out.text(text + "s:''", '13 65535', 327674)
     out.text(text + "s:''s:''", '13 65536', 400000)
+    out.rule('The last byte of a text at the limit, on a line and in a column of its own')
+    out.text('\n' * (LIMIT - 1) + '(', f'4 {LIMIT - 1} {LIMIT}:1')
+    out.text(' ' * (LIMIT - 1) + '(', f'4 {LIMIT - 1} 1:{LIMIT}')
+    out.text('s'.ljust(LIMIT, '\n'), f'5 {LIMIT} {LIMIT}:1')
     out.rule('A table of 65,535 nodes is valid, one of 65,536 is not')
     out.schema(repeated().bytes())
     # Four printed bytes for each zero byte, so the length of print passes 32 bits.
@@ -68,6 +72,6 @@ def wide():
     out.access(1, 15)
     out.rule('A print of 1,048,576 bytes, which is read, and one of 1,048,577, which the read refuses 3')
     out.older(repeated().bytes())
-    carried(out, OVER_LIMIT, (), [], 'read 3 0')
+    carried(out, OVER_LIMIT, (), [], 'read 3 0 0 0')
     carried(out, AT_LIMIT, [I32, X['i'], 0, 1, 2], ['i: 1'], '0 0 66 262047 * *')
     return out

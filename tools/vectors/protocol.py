@@ -13,13 +13,14 @@ NO_REQUESTS = ['s -', 'S', 'S  -', 'S - ', 'S 0', 'S 0g', 'S 0A', ' Q', 'Q 1', '
 def requests():
     out = Requests()
     out.rule('All starts empty: no schema, so each call is refused 1')
-    for line, known in [('T 5 0 -', 'T 1 0 kept'), ('C 0', 'C 1 0 kept'), ('Y 0', 'Y 1 0 kept'), ('Q', 'Q 1 0'), ('A 0', 'A 1 0'),
-                        ('X 0 0 0 0', 'X print 1 0 - kept'), ('X 1 2 5 1', 'X print 1 0 a5a5 kept')]:
+    for line, known in [('T 5 0 -', 'T 1 0 0 0 kept'), ('C 0', 'C 1 0 0 0 kept'), ('Y 0', 'Y 1 0 0 0 kept'), ('Q', 'Q 1 0 0 0'),
+                        ('A 0', 'A 1 0 0 0'), ('X 0 0 0 0', 'X print 1 0 0 0 - kept'),
+                        ('X 1 2 5 1', 'X print 1 0 0 0 a5a5 kept')]:
         out.ask(line, known)
     out.rule('With a schema the empty table is refused 15')
     out.schema(schema_e().bytes())
-    for line, known in [('C 0', 'C 15 0 kept'), ('Y 0', 'Y 15 0 kept'), ('Q', 'Q 15 0'), ('A 0', 'A 15 0'),
-                        ('X 0 1 0 0', 'X print 15 0 a5 kept')]:
+    for line, known in [('C 0', 'C 15 0 0 0 kept'), ('Y 0', 'Y 15 0 0 0 kept'), ('Q', 'Q 15 0 0 0'), ('A 0', 'A 15 0 0 0'),
+                        ('X 0 1 0 0', 'X print 15 0 0 0 a5 kept')]:
         out.ask(line, known)
     out.rule('A read that succeeds is the state after it; one that is refused leaves it')
     out.text("name: 'a'", 'read')
@@ -32,7 +33,7 @@ def requests():
     out.compact('name: "b"')
     out.rule('The older schema starts empty too, and stays when the newer one or the table is another')
     shown = hexed('name: "b"')
-    out.carry(0, 10, 10, 1, f'X read 1 0 {shown}a5 kept')
+    out.carry(0, 10, 10, 1, f'X read 1 0 0 0 {shown}a5 kept')
     out.older(schema_e().bytes())
     for newer in [schema_e(I64), schema_e()]:
         out.schema(newer.bytes())

@@ -22,11 +22,13 @@ use Rattle.definitions.specs.Loop.{Out, done, refused, Stand}
 use Rattle.definitions.specs.Reading.{moved, nested, opens, closerOf, opened, afterName, field, closed, fields, under, readBody}
 use Rattle.laws.proofs.Reach.{reach}
 use Rattle.laws.proofs.Goes.{Went, any, readBody-goes}
+use Rattle.lexer.specs.declared.tokens.Line.{Line}
+use Rattle.lexer.specs.Steps.{lineAt}
 use Rattle.leaves.specs.declared.Answer.{Answer}
 use Rattle.leaves.specs.declared.Answer.the-variants as answer
 use Rattle.leaves.specs.Answers.{answerOf, putAt, Fair, Wrote, Answers, closerFor, standing}
 use Rattle.leaves.proofs.Stores.{parent-put}
-use Rattle.leaves.proofs.Returns.{no-answers, done-answers, answer-done, answer-no, wrote-done}
+use Rattle.leaves.proofs.Returns.{no-answers, done-answers, answer-done, answer-line, answer-no, wrote-done}
 
 -- a closer looks at the spot only as it is moved
 pub closed-at : (deep : Bool) (image : List ℕ) (c : Scope) (at : Place) (n : ℕ) (q : Spot) (key value : Bool)
@@ -116,35 +118,36 @@ module _ (left : ℕ) (image s : List ℕ) (w : Want) (q : Spot) where
           field-inside : field (under left image s) image s w q ≡ nested w (readBody (left - 1) image s (within w) c (record { at = n; node = q .node + 1; byte = q .byte }))
           field-inside = field-under ∙ ap (nested w) (under-some left image s w (t .start) c (record { at = n; node = q .node + 1; byte = q .byte }) z)
 
-          module _ (f : Fair s q) where
+          module _ {l : Line} (f : Fair s q l) where
             pub child-falls : q .at < n
             child-falls = let r = reach s (q .at) t n (f .inside) e in omega (arith, r .from, r .falls (λ o. opens-end (w .kind) (t .kind) (some .0) o))
 
-            pub child-fair : Fair s (record { at = n; node = q .node + 1; byte = q .byte })
-            child-fair =
+            pub child-fair : {m : Line} → m ≡ lineAt s n → Fair s (record { at = n; node = q .node + 1; byte = q .byte }) m
+            child-fair g =
                 let r = reach s (q .at) t n (f .inside) e in
-                record { inside = r .within; nodes = omega (arith, child-falls, f .nodes); bytes = omega (arith, child-falls, f .bytes); short = f .short }
+                record { inside = r .within; nodes = omega (arith, child-falls, f .nodes); bytes = omega (arith, child-falls, f .bytes); short = f .short; line = g }
 
-            module _ (a x b y : List ℕ) (r : Answer) (an : Answers a x b y (record { at = n; node = q .node + 1; byte = q .byte }) (readBody (left - 1) image s (within w) c (record { at = n; node = q .node + 1; byte = q .byte })) r) where
-              pub nested-no : (why : ℕ) (p : Place) → r ≡ answer.No why p → Answers a x b y q (field (under left image s) image s w q) r
+            module _ (a x b y : List ℕ) (r : Answer) (an : Answers (lineAt s) a x b y (record { at = n; node = q .node + 1; byte = q .byte }) (readBody (left - 1) image s (within w) c (record { at = n; node = q .node + 1; byte = q .byte })) r) where
+              pub nested-no : (why : ℕ) (p : Place) → r ≡ answer.No why p → Answers (lineAt s) a x b y q (field (under left image s) image s w q) r
               nested-no why p i =
-                  let o = answer-no (readBody (left - 1) image s (within w) c (record { at = n; node = q .node + 1; byte = q .byte })) why p (sym i ∙ an .answer) in
+                  let o = answer-no (lineAt s) (readBody (left - 1) image s (within w) c (record { at = n; node = q .node + 1; byte = q .byte })) why p (sym i ∙ an .answer) in
                   no-answers a x b y q _ r why p (field-inside ∙ rw o refl) i
 
-              module _ (p : Spot) (i : r ≡ answer.Done p) where
+              module _ (p : Spot) {last : Line} (i : r ≡ answer.Done p last) where
                 kids : (v : List ℕ) × (d : List ℕ) × (readBody (left - 1) image s (within w) c (record { at = n; node = q .node + 1; byte = q .byte }) ≡ done p v d)
-                kids = answer-done (readBody (left - 1) image s (within w) c (record { at = n; node = q .node + 1; byte = q .byte })) p (sym i ∙ an .answer)
+                kids = answer-done (lineAt s) (readBody (left - 1) image s (within w) c (record { at = n; node = q .node + 1; byte = q .byte })) p (sym i ∙ an .answer)
 
                 gone : Went 0 2 s (record { at = n; node = q .node + 1; byte = q .byte }) p (kids .0) (kids .1)
-                gone = readBody-goes (left - 1) image s (within w) c any (record { at = n; node = q .node + 1; byte = q .byte }) (child-fair .inside) .went p (kids .0) (kids .1) (kids .2)
+                gone = readBody-goes (left - 1) image s (within w) c any (record { at = n; node = q .node + 1; byte = q .byte }) (child-fair refl .inside) .went p (kids .0) (kids .1) (kids .2)
 
                 pub nested-node : p .node ≤ mostText + 3
-                nested-node = omega (arith, gone .few, gone .inside, child-fair .nodes, f .short)
+                nested-node = omega (arith, gone .few, gone .inside, child-fair refl .nodes, f .short)
 
                 pub nested-put : length x ≡ length a → (u : List ℕ) → u ≡ putAt x (q .node) (words (record { kind = w .kind; field = w .field; high = 0; low = 0; end = p .node }))
-                    → Answers a u b y q (field (under left image s) image s w q) (answer.Done p)
+                    → Answers (lineAt s) a u b y q (field (under left image s) image s w q) (answer.Done p last)
                 nested-put lx u hu =
                     done-answers a u b y q _ p (words (record { kind = w .kind; field = w .field; high = 0; low = 0; end = p .node }) ++ kids .0) (kids .1) (field-inside ∙ rw (kids .2) refl)
                     (λ hn hb.
                     let st = wrote-done a x b y (record { at = n; node = q .node + 1; byte = q .byte }) _ p (kids .0) (kids .1) (kids .2) (an .wrote) hn hb in
                     (parent-put a x u (kids .0) (q .node) (record { kind = w .kind; field = w .field; high = 0; low = 0; end = p .node }) (st .0) (omega (arith, gone .words)) hu, st .1))
+                    (answer-line (lineAt s) (readBody (left - 1) image s (within w) c (record { at = n; node = q .node + 1; byte = q .byte })) p (sym i ∙ an .answer))

@@ -21,10 +21,12 @@ use Rattle.definitions.specs.Loop.{Out, done, refused, Stand, Turn, stop, more,
 use Rattle.definitions.specs.Reading.{moved, field, closed, again, noted, turnOf, item, start, fields, under, readBody}
 use Rattle.laws.proofs.Reach.{reach}
 use Rattle.laws.proofs.Goes.{Went, Goes, Closing, any, under-goes, field-goes, item-goes, rest-goes, rest-is}
+use Rattle.lexer.specs.declared.tokens.Line.{Line}
+use Rattle.lexer.specs.Steps.{lineAt}
 use Rattle.leaves.specs.declared.Answer.{Answer}
 use Rattle.leaves.specs.declared.Answer.the-variants as answer
 use Rattle.leaves.specs.Answers.{answerOf, Fair, Wrote, Answers, AnswersHere, standing, KeyNoted, ValueNoted}
-use Rattle.leaves.proofs.Returns.{no-answers, answers-by, answers-from, answer-done, answer-no, wrote-done}
+use Rattle.leaves.proofs.Returns.{no-answers, answers-by, answers-from, answer-done, answer-line, answer-no, wrote-done}
 use Rattle.entries.proofs.Joins.{Laid, ahead-none, ahead-ahead, laid-both, then-stored, join}
 
 noted-spot : (c : Scope) (i : ℕ) (h : Stand) (p : Spot) → noted c i h p .spot ≡ p
@@ -82,18 +84,19 @@ module _ (left : ℕ) (image s : List ℕ) (w : Want) (closer : ℕ) where
 
   -- ---- so far
 
-  pub record Rest (q : Spot) (h : Stand) (e x f y : List ℕ) : Type 0 where
+  -- the stand's spot is on a line
+  pub record Rest (q : Spot) (h : Stand) (l : Line) (e x f y : List ℕ) : Type 0 where
     pub words : List ℕ
     pub bytes : List ℕ
     pub laid : Laid q (h .spot) words bytes
     pub on : q .at ≤ h .spot .at
-    pub fair : Fair s (h .spot)
+    pub fair : Fair s (h .spot) l
     pub long : length x ≡ length e
     pub wide : length y ≡ length f
     pub reading : readBody left image s (within w) closer q ≡ ahead words bytes (rest h)
     pub stored : 5 * h .spot .node ≤ length e → h .spot .byte ≤ length f → (x ≡ sets e (5 * q .node) words) × (y ≡ sets f (q .byte) bytes)
 
-  pub begins : (q : Spot) (e f : List ℕ) → Fair s q → Rest q (start q) e e f f
+  pub begins : {l : Line} (q : Spot) (e f : List ℕ) → Fair s q l → Rest q (start q) l e e f f
   begins q e f h = record {
     words = [];
     bytes = [];
@@ -107,35 +110,36 @@ module _ (left : ℕ) (image s : List ℕ) (w : Want) (closer : ℕ) where
   }
 
   -- what is read from here on, after what is read so far
-  pub ends : (q : Spot) (h : Stand) (e x z f y u : List ℕ) (r : Answer) → Rest q h e x f y → Answers x z y u (h .spot) (rest h) r → Answers e z f u q (readBody left image s (within w) closer q) r
+  pub ends : {l : Line} {on : ℕ → Line} (q : Spot) (h : Stand) (e x z f y u : List ℕ) (r : Answer) → Rest q h l e x f y → Answers on x z y u (h .spot) (rest h) r
+      → Answers on e z f u q (readBody left image s (within w) closer q) r
   ends q h e x z f y u r i a =
       answers-by e z f u q _ _ r (i .reading)
       (join q (h .spot) e x z f y u (i .words) (i .bytes) r (rest h) (i .laid) (i .long) (i .wide) (i .stored) (rest-laid h (i .fair .inside)) a)
 
   -- ---- one field more
 
-  module _ (q : Spot) (h : Stand) (e x f y : List ℕ) (so : Rest q h e x f y) (t : Token) (n : ℕ) (sc : scan s (h .spot .at) ≡ token t n) (k : t .kind ≡ closer → ⊥)
+  module _ (q : Spot) (h : Stand) {l : Line} (e x f y : List ℕ) (so : Rest q h l e x f y) (t : Token) (n : ℕ) (sc : scan s (h .spot .at) ≡ token t n) (k : t .kind ≡ closer → ⊥)
       (m : t .kind ≡ nameToken) (j : ℕ) (found : findIn image (within w) (part s (t .start .offset) n) ≡ some j) (a : false ≡ again (within w) j h) where
     pub falls : h .spot .at < n
     falls = let z = reach s (h .spot .at) t n (so .fair .inside) sc in omega (arith, z .from, z .falls (λ o. omega (arith, m, o)))
 
-    pub fair-after : Fair s (moved n (h .spot))
-    fair-after =
+    pub fair-after : {m : Line} → m ≡ lineAt s n → Fair s (moved n (h .spot)) m
+    fair-after g =
         let z = reach s (h .spot .at) t n (so .fair .inside) sc in
-        record { inside = z .within; nodes = omega (arith, falls, so .fair .nodes); bytes = omega (arith, falls, so .fair .bytes); short = so .fair .short }
+        record { inside = z .within; nodes = omega (arith, falls, so .fair .nodes); bytes = omega (arith, falls, so .fair .bytes); short = so .fair .short; line = g }
 
-    module _ (z u : List ℕ) (r : Answer) (b : Answers x z y u (moved n (h .spot)) (field (under left image s) image s (want image (within w) j) (moved n (h .spot))) r) where
-      pub field-no : (why : ℕ) (p : Place) → r ≡ answer.No why p → Answers x z y u (h .spot) (rest h) r
+    module _ (z u : List ℕ) (r : Answer) (b : Answers (lineAt s) x z y u (moved n (h .spot)) (field (under left image s) image s (want image (within w) j) (moved n (h .spot))) r) where
+      pub field-no : (why : ℕ) (p : Place) → r ≡ answer.No why p → Answers (lineAt s) x z y u (h .spot) (rest h) r
       field-no why p i =
-          let o = answer-no (field (under left image s) image s (want image (within w) j) (moved n (h .spot))) why p (sym i ∙ b .answer) in
+          let o = answer-no (lineAt s) (field (under left image s) image s (want image (within w) j) (moved n (h .spot))) why p (sym i ∙ b .answer) in
           no-answers x z y u (h .spot) _ r why p (rest-field h (so .fair .inside) t n sc k m j found a ∙ rw o refl) i
 
-      module _ (p : Spot) (i : r ≡ answer.Done p) where
+      module _ (p : Spot) {last : Line} (i : r ≡ answer.Done p last) where
         out : (v : List ℕ) × (c : List ℕ) × (field (under left image s) image s (want image (within w) j) (moved n (h .spot)) ≡ done p v c)
-        out = answer-done (field (under left image s) image s (want image (within w) j) (moved n (h .spot))) p (sym i ∙ b .answer)
+        out = answer-done (lineAt s) (field (under left image s) image s (want image (within w) j) (moved n (h .spot))) p (sym i ∙ b .answer)
 
         gone : Went 2 1 s (moved n (h .spot)) p (out .0) (out .1)
-        gone = field-goes (under left image s) image s (under-goes left image s) (want image (within w) j) (moved n (h .spot)) (fair-after .inside) .went p (out .0) (out .1) (out .2)
+        gone = field-goes (under left image s) image s (under-goes left image s) (want image (within w) j) (moved n (h .spot)) (fair-after refl .inside) .went p (out .0) (out .1) (out .2)
 
         pub further : h .spot .at < p .at
         further = omega (arith, falls, gone .on)
@@ -146,12 +150,13 @@ module _ (left : ℕ) (image s : List ℕ) (w : Want) (closer : ℕ) where
         next-laid : Laid (h .spot) p (out .0) (out .1)
         next-laid = record { words = gone .words; bytes = gone .bytes }
 
-        next-fair : Fair s p
+        next-fair : Fair s p last
         next-fair = record {
           inside = gone .inside;
           nodes = omega (arith, falls, gone .few, so .fair .nodes);
           bytes = omega (arith, falls, gone .thin, so .fair .bytes);
           short = so .fair .short;
+          line = answer-line (lineAt s) (field (under left image s) image s (want image (within w) j) (moved n (h .spot))) p (sym i ∙ b .answer);
         }
 
         next-reading : rest h ≡ ahead (out .0) (out .1) (rest (noted (within w) j h p))
@@ -160,7 +165,7 @@ module _ (left : ℕ) (image s : List ℕ) (w : Want) (closer : ℕ) where
         next-stored : 5 * p .node ≤ length x → p .byte ≤ length y → (z ≡ sets x (5 * h .spot .node) (out .0)) × (u ≡ sets y (h .spot .byte) (out .1))
         next-stored = wrote-done x z y u (moved n (h .spot)) _ p (out .0) (out .1) (out .2) (b .wrote)
 
-        pub goes-on : length z ≡ length x → length u ≡ length y → (g : Stand) → g ≡ noted (within w) j h p → Rest q g e z f u
+        pub goes-on : length z ≡ length x → length u ≡ length y → (g : Stand) → g ≡ noted (within w) j h p → Rest q g last e z f u
         goes-on lz lu g eg =
             let sp : g .spot ≡ p = ap (λ (v : Stand). v .spot) eg ∙ noted-spot (within w) j h p in
             record {

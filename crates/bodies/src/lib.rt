@@ -16,6 +16,7 @@ use leaves::Answer;
 use leaves::bad;
 use leaves::put_body;
 use lexer::Cursor;
+use lexer::Line;
 use lexer::Step;
 use records::Found;
 use records::Layout;
@@ -28,6 +29,7 @@ ghost use Rattle.definitions.specs.Refusals.{mostText};
 ghost use Rattle.definitions.specs.Scope.{want, within, nests};
 ghost use Rattle.definitions.specs.Reading.{field, under, readBody, rootWant};
 ghost use Rattle.records.specs.Known.{Known};
+ghost use Rattle.lexer.specs.Steps.{lineAt};
 ghost use Rattle.leaves.specs.Answers.{Fair, Lent, Fits, Holds, Answers, Inside, closerFor};
 ghost use Rattle.definitions.specs.Image.{messageCount};
 
@@ -37,19 +39,20 @@ fn merge_field(
     image: &[u8],
     layout: Layout,
     table: &[u8; 256],
-    escape: &[u8; 22],
+    esc: &[u8; 22],
     w: Want,
     i: usize,
     left: usize,
     q: Spot,
+    l: Line,
     nodes: &mut [u32],
     pool: &mut [u8],
 ) -> Answer
-    requires { ⌜ Lent (now table) (now escape) × Known (now image) layout × Fair (now s) q × Fits (now image) w × Inside (now image) w i × (nests (w .kind) ≡ true) ⌝ }
-    ensures { λ r. ⌜ Answers (now (nodes .entry)) (now (nodes .exit)) (now (pool .entry)) (now (pool .exit)) q (field (under left (now (image .entry)) (now (s .entry))) (now (image .entry)) (now (s .entry)) (want (now (image .entry)) (within w) i) q) r ⌝ }
+    requires { ⌜ Lent (now table) (now esc) × Known (now image) layout × Fair (now s) q l × Fits (now image) w × Inside (now image) w i × (nests (w .kind) ≡ true) ⌝ }
+    ensures { λ r. ⌜ Answers (lineAt (now (s .entry))) (now (nodes .entry)) (now (nodes .exit)) (now (pool .entry)) (now (pool .exit)) q (field (under left (now (image .entry)) (now (s .entry))) (now (image .entry)) (now (s .entry)) (want (now (image .entry)) (within w) i) q) r ⌝ }
 {
     let asked = want_in(image, layout, w, i);
-    read_value_of_type(s, image, layout, table, escape, asked, left, q, nodes, pool)
+    read_value_of_type(s, image, layout, table, esc, asked, left, q, l, nodes, pool)
 }
 
 // `:` and a scalar; or `{` or `<`, fields and the matching closer. `left` is how many levels deeper it may go.
@@ -58,20 +61,21 @@ fn read_value_of_type(
     image: &[u8],
     layout: Layout,
     table: &[u8; 256],
-    escape: &[u8; 22],
+    esc: &[u8; 22],
     w: Want,
     left: usize,
     q: Spot,
+    l: Line,
     nodes: &mut [u32],
     pool: &mut [u8],
 ) -> Answer
-    requires { ⌜ Lent (now table) (now escape) × Known (now image) layout × Fair (now s) q × Holds w q × Fits (now image) w ⌝ }
-    ensures { λ r. ⌜ Answers (now (nodes .entry)) (now (nodes .exit)) (now (pool .entry)) (now (pool .exit)) q (field (under left (now (image .entry)) (now (s .entry))) (now (image .entry)) (now (s .entry)) w q) r ⌝ }
+    requires { ⌜ Lent (now table) (now esc) × Known (now image) layout × Fair (now s) q l × Holds w q × Fits (now image) w ⌝ }
+    ensures { λ r. ⌜ Answers (lineAt (now (s .entry))) (now (nodes .entry)) (now (nodes .exit)) (now (pool .entry)) (now (pool .exit)) q (field (under left (now (image .entry)) (now (s .entry))) (now (image .entry)) (now (s .entry)) w q) r ⌝ }
 {
     if w.kind < kinds::MESSAGE {
-        return read_colon(s, image, layout, table, escape, w, q, nodes, pool);
+        return read_colon(s, image, layout, table, esc, w, q, l, nodes, pool);
     }
-    let st = Cursor::next_from(q, s, table);
+    let st = Cursor::next_from(q, l, s, table);
     let Step::Token(t, after) = st else {
         return bad(st);
     };
@@ -83,29 +87,29 @@ fn read_value_of_type(
     if left == 0 {
         return Answer::No(refusals::TOO_DEEP, place);
     }
-    let inside = Spot {
-        at: after.at,
-        node: q.node + 1,
-        byte: q.byte,
-    };
+    let mut inside = q;
+    inside.at = after.at;
+    inside.node = q.node + 1;
+    let first = after.line;
     let r = read_message(
         s,
         image,
         layout,
         table,
-        escape,
+        esc,
         w,
         closer,
         left - 1,
         inside,
+        first,
         nodes,
         pool,
     );
-    let Answer::Done(next) = r else {
+    let Answer::Done(next, end) = r else {
         return r;
     };
     put_body(nodes, q.node, w.kind, w.field, next.node);
-    Answer::Done(next)
+    Answer::Done(next, end)
 }
 
 // The closer that matches an opener, `{` or for a message also `<`; the end of the text for any other token, which closes nothing.
@@ -129,34 +133,33 @@ fn read_message(
     image: &[u8],
     layout: Layout,
     table: &[u8; 256],
-    escape: &[u8; 22],
+    esc: &[u8; 22],
     w: Want,
     closer: u8,
     left: usize,
     q: Spot,
+    l: Line,
     nodes: &mut [u32],
     pool: &mut [u8],
 ) -> Answer
-    requires { ⌜ Lent (now table) (now escape) × Known (now image) layout × Fair (now s) q × Fits (now image) w × (nests (w .kind) ≡ true) ⌝ }
-    ensures { λ r. ⌜ Answers (now (nodes .entry)) (now (nodes .exit)) (now (pool .entry)) (now (pool .exit)) q (readBody left (now (image .entry)) (now (s .entry)) (within w) closer q) r ⌝ }
+    requires { ⌜ Lent (now table) (now esc) × Known (now image) layout × Fair (now s) q l × Fits (now image) w × (nests (w .kind) ≡ true) ⌝ }
+    ensures { λ r. ⌜ Answers (lineAt (now (s .entry))) (now (nodes .entry)) (now (nodes .exit)) (now (pool .entry)) (now (pool .exit)) q (readBody left (now (image .entry)) (now (s .entry)) (within w) closer q) r ⌝ }
 {
-    let mut here = q;
+    let mut q = q;
+    let mut l = l;
     let mut key = false;
     let mut value = false;
     let mut guess = 0;
     loop {
-        let st = Cursor::next_from(here, s, table);
+        let st = Cursor::next_from(q, l, s, table);
         let Step::Token(t, after) = st else {
             return bad(st);
         };
         let place = t.start;
-        let on = Spot {
-            at: after.at,
-            node: here.node,
-            byte: here.byte,
-        };
+        q.at = after.at;
+        l = after.line;
         if t.kind == closer {
-            return close_body(image, layout, w, left == 0, place, on, key, value, nodes);
+            return close_body(image, layout, w, left == 0, place, q, l, key, value, nodes);
         }
         if t.kind != tokens::NAME {
             return Answer::No(refusals::OTHER_EXPECTED, place);
@@ -169,11 +172,12 @@ fn read_message(
         if is_again(w, i, key, value) {
             return Answer::No(refusals::TWICE, place);
         }
-        let r = merge_field(s, image, layout, table, escape, w, i, left, on, nodes, pool);
-        let Answer::Done(next) = r else {
+        let r = merge_field(s, image, layout, table, esc, w, i, left, q, l, nodes, pool);
+        let Answer::Done(next, last) = r else {
             return r;
         };
-        here = next;
+        q = next;
+        l = last;
         guess = i;
         key = has_key(w, i, key);
         value = has_value(w, i, value);
@@ -186,13 +190,13 @@ pub fn read_root(
     image: &[u8],
     layout: Layout,
     table: &[u8; 256],
-    escape: &[u8; 22],
+    esc: &[u8; 22],
     root: usize,
     nodes: &mut [u32],
     pool: &mut [u8],
 ) -> Answer
-    requires { ⌜ Lent (now table) (now escape) × Known (now image) layout × (root < messageCount (now image)) × (length (now s) ≤ mostText) ⌝ }
-    ensures { λ r. ⌜ Answers (now (nodes .entry)) (now (nodes .exit)) (now (pool .entry)) (now (pool .exit)) (record { at = 0; node = 1; byte = 0 }) (readBody 32 (now (image .entry)) (now (s .entry)) (within (rootWant root)) 0 (record { at = 0; node = 1; byte = 0 })) r ⌝ }
+    requires { ⌜ Lent (now table) (now esc) × Known (now image) layout × (root < messageCount (now image)) × (length (now s) ≤ mostText) ⌝ }
+    ensures { λ r. ⌜ Answers (lineAt (now (s .entry))) (now (nodes .entry)) (now (nodes .exit)) (now (pool .entry)) (now (pool .exit)) (record { at = 0; node = 1; byte = 0 }) (readBody 32 (now (image .entry)) (now (s .entry)) (within (rootWant root)) 0 (record { at = 0; node = 1; byte = 0 })) r ⌝ }
 {
     let start = Spot {
         at: 0,
@@ -209,11 +213,15 @@ pub fn read_root(
         image,
         layout,
         table,
-        escape,
+        esc,
         w,
         tokens::END,
         MOST_DEPTH,
         start,
+        Line {
+            number: 1,
+            began: 0,
+        },
         nodes,
         pool,
     )

@@ -7,8 +7,8 @@
 -- In the setting of demand 3, with a buffer that has room for the text:
 --   * if the older schema knows every live name, and there is room for the live values, the nodes and bytes lent hold a valid table of
 --     the older schema with the same live values under the same names, which prints the same;
---   * if not, the answer is 6 or 7 at the first live name of the text that the older schema lacks, which stands there in the buffer, and
---     the nodes and bytes lent are as they were.
+--   * if not, the answer is 6 or 7 at the first live name of the text that the older schema lacks: its offset, line and column in the
+--     text, where it stands in the buffer; and the nodes and bytes lent are as they were.
 use Prim.Native.Nat.{ℕ, suc, _+_, _≤_}
 use mathlib.Core.Path.{_≡_}
 use mathlib.Core.Bool.{true, false}
@@ -17,13 +17,14 @@ use mathlib.Core.Option.{some}
 use lib.Dec.{leb}
 use lib.ListN.{length, take}
 use Rattle.definitions.specs.Basics.{part}
-use Rattle.definitions.specs.Refusals.{Answer, given, denied, place, mostText}
+use Rattle.definitions.specs.Refusals.{Answer, given, denied, mostText}
 use Rattle.definitions.specs.Image.{accepted, isMessage}
 use Rattle.definitions.specs.Extending.{extends}
 use Rattle.definitions.specs.Scope.{inMessage}
 use Rattle.definitions.specs.Validity.{valid}
 use Rattle.definitions.specs.Live.{meaning}
 use Rattle.definitions.specs.Names.{names}
+use Rattle.definitions.specs.Places.{placeOf}
 use Rattle.definitions.specs.Reading.{Made, readAnswer, readNodes, readPool}
 use Rattle.definitions.specs.Print.{Style, printText, printAnswer}
 use Rattle.trees.specs.Laying.{size, laidBytes}
@@ -82,13 +83,14 @@ pub record Same (newer older : List ℕ) (root : ℕ) (w pool : List ℕ) (r : C
       ≡ byName newer (inMessage root) (meaning newer root w pool)
   pub printed : (z : Style) → printText older z root nodes bytes ≡ printText newer z root w pool
 
--- refused: the first live name of the text that the older schema lacks, where it stands in the buffer, 6 or 7, and no word or byte changed
+-- refused: the first live name of the text that the older schema lacks, where it stands in the buffer, 6 or 7 at its place in the text,
+-- and no word or byte changed
 pub record Lacks
     (newer older : List ℕ) (root : ℕ) (w pool : List ℕ) (y : Style) (r : Carried) (buffer before nodes held bytes : List ℕ) : Type 0 where
   pub first : Spelled
   pub lacks : lacking older (spelled newer y 0 true (inMessage root) (meaning newer root w pool) 0) ≡ some first
   pub stands : part buffer (first .at) (first .at + length (spelling (first .name))) ≡ spelling (first .name)
-  pub answer : r ≡ carried.NotRead (refusalOf (first .name)) (place (first .at))
+  pub answer : r ≡ carried.NotRead (refusalOf (first .name)) (placeOf (printText newer y root w pool) (first .at))
   pub nodesKept : nodes ≡ before
   pub bytesKept : bytes ≡ held
 

@@ -55,7 +55,7 @@ fn carried_read(answer: Read) -> Carried
 // On success the answer is Made(n, b): the first 5 * n words of `into` and the first b bytes of `bytes` hold what the text says under
 // the older schema, and the rest of both is as it was. NotPrinted(number, place) is a refusal of the print, as `text_format::print`
 // has it: nothing is changed. NotRead(number, place) is a refusal of the read, as `text_format::read` has it: `into` and `bytes` are as
-// they were, and the text that was refused stands in `buffer`, so that the place of 4 to 12 is an offset there.
+// they were, and the text that was refused stands in `buffer`, so that the place of 4 to 12 is one there.
 //
 // Where the newer schema extends the older one, and the table is valid, with a name for every live field and enum number: if the older
 // schema knows all of them and there is room, what was read are the same live values under the same names; if not, the read is refused 6

@@ -15,7 +15,7 @@ use Rattle.definitions.specs.declared.Spot.{Spot}
 use Rattle.definitions.specs.declared.Place.{Place}
 use Rattle.definitions.specs.declared.Want.{Want}
 use Rattle.definitions.specs.Basics.{if_then_else_, each, same}
-use Rattle.definitions.specs.Refusals.{place, unknownField, mostDepth}
+use Rattle.definitions.specs.Refusals.{unknownField, mostDepth}
 use Rattle.definitions.specs.Image.{messageCount, fieldName, findField}
 use Rattle.definitions.specs.Classes.{class, classes}
 use Rattle.definitions.specs.Scope.{Scope, inMessage, inEntry, want, within, hasField, nameIn, findIn, nests, enum, body, mapEntry}
@@ -23,6 +23,7 @@ use Rattle.definitions.specs.Nodes.{words}
 use Rattle.definitions.specs.Integers.{runsOn}
 use Rattle.definitions.specs.Live.{Val, number, run, inside, Tree, nil, node}
 use Rattle.definitions.specs.Names.{nameOf, valueNames, knows}
+use Rattle.definitions.specs.Places.{placeOf}
 use Rattle.definitions.specs.Loop.{Out, done, refused, Stand, Turn, stop, ahead, onward, turns, loop}
 use Rattle.definitions.specs.Reading.{moved, nested, field, opened, closed, again, noted, turnOf, named, item, start, fields, under, readBody, rootWant, whole}
 use Rattle.definitions.specs.Print.{Style, numberText, quoted, label, lead, trail, opening, closing, valueText, render}
@@ -125,10 +126,10 @@ ahead-none : (o : Out) → o ≡ ahead [] [] o
 ahead-none (done q v c) = refl
 ahead-none (refused why at) = refl
 
-turn-miss : (d : Scope) (j : ℕ) (h : Stand) (rest : Stand → Out) (m : Option Spelled) (q : Spot) (w b : List ℕ)
-    → onward rest (turnOf d j h (orMiss m (done q w b))) ≡ orMiss m (ahead w b (rest (noted d j h q)))
-turn-miss d j h rest none q w b = refl
-turn-miss d j h rest (some x) q w b = refl
+turn-miss : (text : List ℕ) (d : Scope) (j : ℕ) (h : Stand) (rest : Stand → Out) (m : Option Spelled) (q : Spot) (w b : List ℕ)
+    → onward rest (turnOf d j h (orMiss text m (done q w b))) ≡ orMiss text m (ahead w b (rest (noted d j h q)))
+turn-miss text d j h rest none q w b = refl
+turn-miss text d j h rest (some x) q w b = refl
 
 else-assoc : (a b e : Option Spelled) → orElse a (orElse b e) ≡ orElse (orElse a b) e
 else-assoc none b e = refl
@@ -168,7 +169,7 @@ module _ (N O s : List ℕ) (y : Style) where
     pub place : end + length gap ≡ at
     pub reading : (f : ℕ)
         → turns (n + f) (turn left closer d) h
-        ≡ orMiss m (ahead (laidWords u (h .spot .node) (h .spot .byte)) (laidBytes u) (turns f (turn left closer d) (standAfter d u h end)))
+        ≡ orMiss s m (ahead (laidWords u (h .spot .node) (h .spot .byte)) (laidBytes u) (turns f (turn left closer d) (standAfter d u h end)))
 
   abbrev pub Body : Tree → Type 0
   Body t =
@@ -212,7 +213,7 @@ module _ (N O s : List ℕ) (y : Style) where
   body-closes : (left dp : ℕ) (d : Scope) (h : Stand) (u : Tree) (m : Option Spelled) (at n : ℕ) (z : List ℕ)
       → On left d 125 h n u m at (closeGap y dp ++ (125 ∷ z)) → Full d (keyAfter d u (h .key)) (valueAfter d u (h .value)) → n ≤ length s
       → turns (suc (length s)) (turn left 125 d) h
-      ≡ orMiss m
+      ≡ orMiss s m
       (done (record { at = at + length (closeGap y dp) + 1; node = h .spot .node + size u; byte = h .spot .byte + length (laidBytes u) })
       (laidWords u (h .spot .node) (h .spot .byte)) (laidBytes u))
   unfolding turns item class classes
@@ -229,7 +230,7 @@ module _ (N O s : List ℕ) (y : Style) where
       ≡ done (moved (at + length (closeGap y dp) + 1) (standAfter d u h (on .end) .spot)) [] [] =
       rw (tok, p) (closes (eqb left 0) O d _ (at + length (closeGap y dp) + 1) (standAfter d u h (on .end)) full) in
       ap (λ (i : ℕ). turns i (turn left 125 d) h) e ∙ on .reading (suc f)
-      ∙ ap (orMiss m) (ap (ahead ws (laidBytes u)) last ∙ rw (append-nil ws, append-nil (laidBytes u)))
+      ∙ ap (orMiss s m) (ap (ahead ws (laidBytes u)) last ∙ rw (append-nil ws, append-nil (laidBytes u)))
 
   abbrev Pairs : Scope → Tree → Type 0
   Pairs (inMessage m) t = Unit {0}
@@ -261,7 +262,7 @@ module _ (N O s : List ℕ) (y : Style) where
       → Body kids
       → drop (q .at) s ≡ opening y ++ (render N y (dp + 1) true (within w) kids ++ closing y dp) ++ z
       → field (under left O s) O s v q
-      ≡ orMiss (lacking O (spelled N y (dp + 1) true (within w) kids (q .at + length (opening y))))
+      ≡ orMiss s (lacking O (spelled N y (dp + 1) true (within w) kids (q .at + length (opening y))))
       (fieldDone k r q (q .at + length (opening y ++ (render N y (dp + 1) true (within w) kids ++ closing y dp))) inside
       (relabel N O (within w) (within v) kids))
   unfolding field opened class classes
@@ -292,12 +293,12 @@ module _ (N O s : List ℕ) (y : Style) where
         length-append (closeGap y dp) (125 ∷ []),
       )
       in
-      let first : field (under left O s) O s v q ≡ nested v (under left O s v (place (q .at + 1)) 125 q₂) =
+      let first : field (under left O s) O s v q ≡ nested v (under left O s v (placeOf s (q .at + 1)) 125 q₂) =
       rw (wants .kind, ns, tok) in
       first
-      ∙ ap (nested v) (under-some left v (place (q .at + 1)) 125 q₂ lv ∙ (rw (at₂, at₁) at closed-is))
-      ∙ nested-miss v (lacking O (spelled N y (dp + 1) true (within w) kids (q .at + length (opening y)))) _
-      ∙ ap (orMiss (lacking O (spelled N y (dp + 1) true (within w) kids (q .at + length (opening y)))))
+      ∙ ap (nested v) (under-some left v (placeOf s (q .at + 1)) 125 q₂ lv ∙ (rw (at₂, at₁) at closed-is))
+      ∙ nested-miss s v (lacking O (spelled N y (dp + 1) true (within w) kids (q .at + length (opening y)))) _
+      ∙ ap (orMiss s (lacking O (spelled N y (dp + 1) true (within w) kids (q .at + length (opening y)))))
       (nested-done v q k r (q .at + length (opening y ++ (R ++ closing y dp))) u (wants .kind ∙ sym ek) er)
 
   module _ (okN : Accepted N) (okO : Accepted O) (x : Extends N O) where
@@ -314,7 +315,7 @@ module _ (N O s : List ℕ) (y : Style) where
     leaf : (w v : Want) (u : Val) (q : Spot) (k r left dp : ℕ) (t : List ℕ) → eqb k enum ≡ false
         → field (under left O s) O s v q ≡ fieldDone k r q (q .at + length t) u nil
         → field (under left O s) O s v q
-        ≡ orMiss (lackingIn w k u nil (q .at) dp) (fieldDone k r q (q .at + length t) u (relabel N O (within w) (within v) nil))
+        ≡ orMiss s (lackingIn w k u nil (q .at) dp) (fieldDone k r q (q .at + length t) u (relabel N O (within w) (within v) nil))
     unfolding relabel
     leaf w v u q k r left dp t e h = rw (lacking-leaf w k u (q .at) dp e) h
 
@@ -324,16 +325,16 @@ module _ (N O s : List ℕ) (y : Style) where
 
     enum-case : (w v : Want) (n : ℕ) (q : Spot) (k r left dp : ℕ) (t : List ℕ)
         → field (under left O s) O s v q
-        ≡ orMiss (lacking O (spelledAt (q .at + 2) (valueNames N w k (number n)))) (fieldDone k r q (q .at + length t) (number n) nil)
+        ≡ orMiss s (lacking O (spelledAt (q .at + 2) (valueNames N w k (number n)))) (fieldDone k r q (q .at + length t) (number n) nil)
         → field (under left O s) O s v q
-        ≡ orMiss (lackingIn w k (number n) nil (q .at) dp) (fieldDone k r q (q .at + length t) (number n) (relabel N O (within w) (within v) nil))
+        ≡ orMiss s (lackingIn w k (number n) nil (q .at) dp) (fieldDone k r q (q .at + length t) (number n) (relabel N O (within w) (within v) nil))
     unfolding lacking spelled relabel
     enum-case w v n q k r left dp t h = rw (← else-none (lacking O (spelledAt (q .at + 2) (valueNames N w k (number n))))) h
 
     inside-case : (w v : Want) (kids : Tree) (q : Spot) (k r left dp : ℕ) (t : List ℕ) (u : Tree) → eqb k enum ≡ false
         → field (under left O s) O s v q
-        ≡ orMiss (lacking O (spelled N y (dp + 1) true (within w) kids (q .at + length (opening y)))) (fieldDone k r q (q .at + length t) inside u)
-        → field (under left O s) O s v q ≡ orMiss (lackingIn w k inside kids (q .at) dp) (fieldDone k r q (q .at + length t) inside u)
+        ≡ orMiss s (lacking O (spelled N y (dp + 1) true (within w) kids (q .at + length (opening y)))) (fieldDone k r q (q .at + length t) inside u)
+        → field (under left O s) O s v q ≡ orMiss s (lackingIn w k inside kids (q .at) dp) (fieldDone k r q (q .at + length t) inside u)
     unfolding lacking
     inside-case w v kids q k r left dp t u e h = rw (valueNames-other N w k inside e) h
 
@@ -349,7 +350,7 @@ module _ (N O s : List ℕ) (y : Style) where
         → Wants N O w v → k ≡ w .kind → v .field ≡ r → Sound N left w u kids → Fits N (left - 1) (within w) kids → Body kids → runsOn z ≡ false
         → drop (q .at) s ≡ valueText N y dp w k u (render N y (dp + 1) true (within w) kids) ++ z
         → field (under left O s) O s v q
-        ≡ orMiss (lackingIn w k u kids (q .at) dp)
+        ≡ orMiss s (lackingIn w k u kids (q .at) dp)
         (fieldDone k r q (q .at + length (valueText N y dp w k u (render N y (dp + 1) true (within w) kids))) u
         (relabel N O (within w) (within v) kids))
     over-value w v u kids q k r left dp z wants ek er (soundI32 {n = n} e h) fits ih st d =
@@ -394,7 +395,7 @@ module _ (N O s : List ℕ) (y : Style) where
 
     lacks-name : (c d : Scope) (r p : ℕ) → Together N O c d → hasField N c r ≡ true → findIn O d (nameIn N c r) ≡ none
         → (m : Option Spelled) (o : Out)
-        → orMiss (orElse (lacking O (spelledAt p (nameOf N c r))) m) o ≡ refused unknownField (place p)
+        → orMiss s (orElse (lacking O (spelledAt p (nameOf N c r))) m) o ≡ refused unknownField (placeOf s p)
     unfolding findIn nameIn nameOf lacking knows same
     lacks-name (inMessage m) (inMessage l) r p t has e a o =
         let f : findField O m (fieldName N r) ≡ none = (rw (← t .0) at e) in
@@ -403,7 +404,7 @@ module _ (N O s : List ℕ) (y : Style) where
     lacks-name (inEntry g) (inMessage l) r p t has e a o = absurd t
     lacks-name (inEntry g) (inEntry h) r p t has e a o = go (eqb r 0) refl
       where
-        go : (b : Bool) → eqb r 0 ≡ b → orMiss a o ≡ refused unknownField (place p)
+        go : (b : Bool) → eqb r 0 ≡ b → orMiss s a o ≡ refused unknownField (placeOf s p)
         go true q = let z : _≡_ {A = Option ℕ} (some 0) none = (rw (q, nameIn) at e) in let i : _≡_ {A = ℕ} 0 1 = cc in absurd (omega arith)
         go false q = let z : _≡_ {A = Option ℕ} (some 1) none = (rw (q, nameIn) at e) in let i : _≡_ {A = ℕ} 0 1 = cc in absurd (omega arith)
 
@@ -467,7 +468,7 @@ module _ (N O s : List ℕ) (y : Style) where
       after-value : drop (p + length name + length VT) s ≡ Z
       after-value = drop-on s VT Z (p + length name) after-name
 
-      item-is : T h ≡ named (under left O s) O s d h (place p) (p + length name) (findIn O d name)
+      item-is : T h ≡ named (under left O s) O s d h (placeOf s p) (p + length name) (findIn O d name)
       unfolding item
       item-is =
           let tok =
@@ -518,12 +519,12 @@ module _ (N O s : List ℕ) (y : Style) where
         where
           reading : (f : ℕ)
               → turns (suc (count rest) + f) T h
-              ≡ orMiss (lacking O (spelled N y dp first c W (h .spot .at + length g)))
+              ≡ orMiss s (lacking O (spelled N y dp first c W (h .spot .at + length g)))
               (ahead (laidWords (relabel N O c d W) (h .spot .node) (h .spot .byte)) (laidBytes (relabel N O c d W))
               (turns f T (standAfter d (relabel N O c d W) h (h .spot .at + length g + length (render N y dp first c W)))))
           reading f =
-              let it : T h ≡ stop (refused unknownField (place p)) = item-is ∙ rw none-is in
-              let go : turns (suc (count rest + f)) T h ≡ refused unknownField (place p) = ap (onward (turns (count rest + f) T)) it in
+              let it : T h ≡ stop (refused unknownField (placeOf s p)) = item-is ∙ rw none-is in
+              let go : turns (suc (count rest + f)) T h ≡ refused unknownField (placeOf s p) = ap (onward (turns (count rest + f) T)) it in
               ap (λ (i : ℕ). turns i T h) (suc-add (count rest) f)
               ∙ go
               ∙ sym (rw lacking-is (lacks-name c d r p together (fits .0) none-is (orElse (lackingIn w k u kids (p + length name) dp) lackingRest) _))
@@ -562,7 +563,7 @@ module _ (N O s : List ℕ) (y : Style) where
         room-is = rw relabel-is at room
 
         value-is : field (under left O s) O s v q₁
-            ≡ orMiss (lackingIn w k u kids (p + length name) dp) (fieldDone k j q₁ (p + length name + length VT) u kids′)
+            ≡ orMiss s (lackingIn w k u kids (p + length name) dp) (fieldDone k j q₁ (p + length name + length VT) u kids′)
         value-is =
             over-value w v u kids q₁ k j left dp Z (known-is .0) (fits .1) (known-is .2) (fits .2) (fits .3) ihKids (rest-stops N y dp c rest z stops)
             after-name
@@ -602,7 +603,7 @@ module _ (N O s : List ℕ) (y : Style) where
         laid-is o = rw (append-assoc (bytesIn u) (laidBytes kids′) (laidBytes rest′))
 
         reading-is : (f : ℕ) → turns (suc (count rest) + f) T h
-            ≡ orMiss (orElse (lackingIn w k u kids (p + length name) dp) lackingRest)
+            ≡ orMiss s (orElse (lackingIn w k u kids (p + length name) dp) lackingRest)
             (ahead (laidWords (node j k u kids′ rest′) (h .spot .node) (h .spot .byte)) (laidBytes (node j k u kids′ rest′))
             (turns f T (standAfter d (node j k u kids′ rest′) h (on-rest .end))))
         unfolding turns
@@ -610,21 +611,21 @@ module _ (N O s : List ℕ) (y : Style) where
             let m₂ = lackingIn w k u kids (p + length name) dp in
             let X : Out = turns f T (standAfter d rest′ h₂ (on-rest .end)) in
             let step : turns (suc (count rest + f)) T h
-            ≡ onward (turns (count rest + f) T) (turnOf d j h (orMiss m₂ (fieldDone k j q₁ (p + length name + length VT) u kids′))) =
+            ≡ onward (turns (count rest + f) T) (turnOf d j h (orMiss s m₂ (fieldDone k j q₁ (p + length name + length VT) u kids′))) =
             ap (onward (turns (count rest + f) T)) (turn-is ∙ ap (turnOf d j h) value-is) in
             let tail : turns (count rest + f) T (noted d j h q₂)
-            ≡ orMiss lackingRest (ahead (laidWords rest′ (q₂ .node) (q₂ .byte)) (laidBytes rest′) X) =
+            ≡ orMiss s lackingRest (ahead (laidWords rest′ (q₂ .node) (q₂ .byte)) (laidBytes rest′) X) =
             ap (turns (count rest + f) T) (noted-is d j h q₂) ∙ on-rest .reading f in
             ap (λ (i : ℕ). turns i T h) (suc-add (count rest) f)
             ∙ step
-            ∙ turn-miss d j h (turns (count rest + f) T) m₂ q₂ words₁ bytes₁
-            ∙ ap (orMiss m₂)
+            ∙ turn-miss s d j h (turns (count rest + f) T) m₂ q₂ words₁ bytes₁
+            ∙ ap (orMiss s m₂)
             (ap (ahead words₁ bytes₁) tail
-            ∙ ahead-miss words₁ bytes₁ lackingRest _
-            ∙ ap (orMiss lackingRest) (ahead-ahead words₁ (laidWords rest′ (q₂ .node) (q₂ .byte)) bytes₁ (laidBytes rest′) X ∙ laid-is X))
-            ∙ miss-else m₂ lackingRest _
+            ∙ ahead-miss s words₁ bytes₁ lackingRest _
+            ∙ ap (orMiss s lackingRest) (ahead-ahead words₁ (laidWords rest′ (q₂ .node) (q₂ .byte)) bytes₁ (laidBytes rest′) X ∙ laid-is X))
+            ∙ miss-else s m₂ lackingRest _
             ∙ ap
-            (λ (a : Stand). orMiss (orElse m₂ lackingRest)
+            (λ (a : Stand). orMiss s (orElse m₂ lackingRest)
             (ahead (laidWords (node j k u kids′ rest′) (h .spot .node) (h .spot .byte)) (laidBytes (node j k u kids′ rest′)) (turns f T a)))
             (stand-is (on-rest .end))
 
@@ -664,7 +665,7 @@ pub over-whole : (N O : List ℕ) (y : Style) → Accepted N → Accepted O → 
     → let s = render N y 0 true (inMessage root) t in
     let u = relabel N O (inMessage root) (inMessage root) t in
     whole O root s
-    ≡ orMiss (lacking O (spelled N y 0 true (inMessage root) t 0))
+    ≡ orMiss s (lacking O (spelled N y 0 true (inMessage root) t 0))
     (done (record { at = length s; node = 1 + size u; byte = length (laidBytes u) })
     (words (record { kind = body; field = 0; high = 0; low = 0; end = 1 + size u }) ++ laidWords u 1 0) (laidBytes u))
 unfolding whole readBody fields loop turns item each runsOn
@@ -691,6 +692,6 @@ over-whole N O y okN okO x root t here fits =
     let ended : ahead ws (laidBytes u) (turns (suc f) T (standAfter N O s y c u (start q₀) (on .end))) ≡ D =
     ap (ahead ws (laidBytes u)) last ∙ rw (append-nil ws, append-nil (laidBytes u)) in
     let m = lacking O (spelled N y 0 true c t 0) in
-    let body-is : turns (suc (length s)) T (start q₀) ≡ orMiss m D =
-    ap (λ (i : ℕ). turns i T (start q₀)) e ∙ on .reading (suc f) ∙ ap (orMiss m) ended in
-    ap (nested (rootWant root)) body-is ∙ nested-miss (rootWant root) m D
+    let body-is : turns (suc (length s)) T (start q₀) ≡ orMiss s m D =
+    ap (λ (i : ℕ). turns i T (start q₀)) e ∙ on .reading (suc f) ∙ ap (orMiss s m) ended in
+    ap (nested (rootWant root)) body-is ∙ nested-miss s (rootWant root) m D

@@ -116,11 +116,11 @@ tripAt from to root = record { from = from; to = to; root = root; style = compac
 -- the text that the older schema prints of what it read, or its refusal
 pub data Outcome : Type 0 where
   reads : List ℕ → Outcome
-  refuses : (why at : ℕ) → Outcome
+  refuses : (why : ℕ) → (offset line column : ℕ) → Outcome
 
 abbrev pub outcomeOf : List ℕ → ℕ → List ℕ → Answer Made → Outcome
 outcomeOf schema root text (given made) = reads (printText schema compact root (wordsOf (whole schema root text)) (bytesOf (whole schema root text)))
-outcomeOf schema root text (denied why at) = refuses why (at .offset)
+outcomeOf schema root text (denied why at) = refuses why (at .offset) (at .line) (at .column)
 
 -- what the demand presumes, in the order of `Setting`; whether the older schema knows every live name; and what comes of it
 pub record Result : Type 0 where

@@ -8,13 +8,14 @@ use mathlib.Core.Option.{none, some}
 use lib.ListN.{length, drop}
 use borrow.Author.Tests.{ltb-true, le-ltb}
 use Rattle.definitions.specs.declared.Node.{Node}
-use Rattle.definitions.specs.Refusals.{given, denied, place, mostDepth}
+use Rattle.definitions.specs.Refusals.{given, denied, mostDepth}
 use Rattle.definitions.specs.Image.{isMessage, messageCount}
 use Rattle.definitions.specs.Scope.{inMessage}
 use Rattle.definitions.specs.Nodes.{nodeAt, tableEnd, forest, grow}
 use Rattle.definitions.specs.Validity.{below, valid}
 use Rattle.definitions.specs.Live.{Tree, node, treeOf, canon, meaning}
 use Rattle.definitions.specs.Names.{names}
+use Rattle.definitions.specs.Places.{placeOf}
 use Rattle.definitions.specs.Loop.{done}
 use Rattle.definitions.specs.Calls.{barred}
 use Rattle.definitions.specs.Reading.{Made, nodeRoom, fitted, whole, readBarred, readAnswer, readNodes, readPool}
@@ -98,7 +99,7 @@ module _ (newer older : List ℕ) (root : ℕ) (w pool : List ℕ) (y : Style) (
 
   -- the whole reading
   reading : whole older root text
-      ≡ orMiss (lacking older spellings)
+      ≡ orMiss text (lacking older spellings)
       (done (record { at = length text; node = 1 + size u; byte = length (laidBytes u) }) (tableOver u) (laidBytes u))
   unfolding printText
   reading = over-whole newer older y okN okO ext root t here fits
@@ -112,7 +113,7 @@ module _ (newer older : List ℕ) (root : ℕ) (w pool : List ℕ) (y : Style) (
   answer-is count size = rw not-barred refl
 
   refuses : (x : Spelled) → lacking older spellings ≡ some x → (count size : ℕ)
-      → readAnswer older root text count size ≡ denied (refusalOf (x .name)) (place (x .at))
+      → readAnswer older root text count size ≡ denied (refusalOf (x .name)) (placeOf text (x .at))
   refuses x e count size = answer-is count size ∙ ap (fitted count size) reading ∙ rw e refl
 
   -- their names are the live names

@@ -7,7 +7,7 @@ use mathlib.Core.Option.{Option, none, some}
 use lib.ListN.{length}
 use Rattle.definitions.specs.Basics.{bytes, same, each, all, any, find}
 use Rattle.definitions.specs.Bits.{bit, bits}
-use Rattle.definitions.specs.Refusals.{denied, place, textTooLong}
+use Rattle.definitions.specs.Refusals.{denied, unplaced, textTooLong}
 use Rattle.definitions.specs.Image.{form, messageCount, fieldCount, enumCount, valueCount, nameCount, messagesAt, fieldsAt, enumsAt, valuesAt, namesAt, imageLength, message, enumeration, fieldAt, field, memberAt, member, identifier, nameText, fieldName, memberName, nameGood, total, running, typeGood, fieldGood, memberGood, distinct, fieldsAgree, membersAgree, headerGood, recordsGood, accepted, isMessage, findField, findMember, findNumber}
 use Rattle.definitions.specs.Extending.{sameField, embedded, messageExtends, sameMember, enumExtends, extends}
 use Rattle.definitions.specs.Scope.{want, within, hasField, nameIn, findIn}
@@ -18,6 +18,7 @@ use Rattle.definitions.specs.Live.{rankOf, valueOf, treeOf, sameVal, has, keyOf
 use Rattle.definitions.specs.Names.{nameOf, valueNames, names, knows}
 use Rattle.definitions.specs.Classes.{classes, class}
 use Rattle.definitions.specs.Integers as integers
+use Rattle.definitions.specs.Places.{newlines, behind}
 use Rattle.definitions.specs.Tokens.{gap, inside, integerScan, scanFrom, skip, scan}
 use Rattle.definitions.specs.Strings.{escapes, findEscape, octalPiece, hexPiece, escapePiece, firstPiece, decodeF, decode}
 use Rattle.definitions.specs.Calls.{barred}
@@ -39,6 +40,7 @@ demands =
     ∷ trip newer older compact (bytes "id: 1 mode: ECO")
     ∷ trip newer older compact (bytes "limits { key: 'a' value { hue: OFF } }")
     ∷ trip newer older pretty (bytes "limits { key: 'a' value { hue: OFF } }")
+    ∷ trip newer older pretty (bytes "id: 1 child { mode: ECO }")
     ∷ []
 
 -- all that is presumed holds
@@ -54,10 +56,11 @@ demandsExpected =
     (bytes "id: 5\nmode: ON\nlimits {\n  key: \"a\"\n  value {\n    steps {\n      key: -3\n      value: 7\n    }\n  }\n}\nchild {\n  mode: OFF\n}\n")
     (reads (bytes "id: 5 mode: ON limits {key: \"a\" value {steps {key: -3 value: 7}}} child {mode: OFF}"))
     ∷ presumed true (bytes "mode: ON") (reads (bytes "mode: ON"))  -- a replaced value's name is not live
-    ∷ presumed false (bytes "id: 1 extra: 4") (refuses 6 6)
-    ∷ presumed false (bytes "id: 1 mode: ECO") (refuses 7 12)
-    ∷ presumed false (bytes "limits {key: \"a\" value {hue: OFF}}") (refuses 6 24)
-    ∷ presumed false (bytes "limits {\n  key: \"a\"\n  value {\n    hue: OFF\n  }\n}\n") (refuses 6 34)
+    ∷ presumed false (bytes "id: 1 extra: 4") (refuses 6 6 1 7)
+    ∷ presumed false (bytes "id: 1 mode: ECO") (refuses 7 12 1 13)
+    ∷ presumed false (bytes "limits {key: \"a\" value {hue: OFF}}") (refuses 6 24 1 25)
+    ∷ presumed false (bytes "limits {\n  key: \"a\"\n  value {\n    hue: OFF\n  }\n}\n") (refuses 6 34 4 5)
+    ∷ presumed false (bytes "id: 1\nchild {\n  mode: ECO\n}\n") (refuses 7 22 3 9)
     ∷ []
 
 -- ---- without what is presumed: one thing fails, in the order of `Setting`; the length of the text comes below
@@ -91,18 +94,18 @@ unless n m printed outcome = record { presumed = failing n m; knowing = true; pr
 
 abbrev breaksExpected : List Result
 breaksExpected =
-    record { presumed = failing 0 8; knowing = false; printed = bytes "9: 4"; outcome = refuses 5 0 }
-    ∷ unless 1 7 (bytes "id: 5") (refuses 1 0)
+    record { presumed = failing 0 8; knowing = false; printed = bytes "9: 4"; outcome = refuses 5 0 1 1 }
+    ∷ unless 1 7 (bytes "id: 5") (refuses 1 0 0 0)
     ∷ unless 2 6 (bytes "extra: 1 extra: 2") (reads (bytes "extra: 2"))
-    ∷ unless 2 6 (bytes "id: -5") (refuses 5 4)
-    ∷ unless 2 6 (bytes "child {id: 2}") (refuses 6 7)
+    ∷ unless 2 6 (bytes "id: -5") (refuses 5 4 1 5)
+    ∷ unless 2 6 (bytes "child {id: 2}") (refuses 6 7 1 8)
     ∷ unless 2 6 (bytes "a: 1 b: 2") (reads (bytes "b: 2 a: 1"))
-    ∷ unless 3 5 [] (refuses 2 0)
-    ∷ unless 4 4 (bytes "id: 4294967295") (refuses 9 4)
+    ∷ unless 3 5 [] (refuses 2 0 0 0)
+    ∷ unless 4 4 (bytes "id: 4294967295") (refuses 9 4 1 5)
     ∷ unless 5 3 (bytes "total: -0") (reads (bytes "total: 0"))
-    ∷ unless 6 2 (bytes "raw: \"\\400\"") (refuses 11 5)
-    ∷ unless 7 1 (bytes "9: 4") (refuses 5 0)
-    ∷ unless 7 1 (bytes "mode: : 7") (refuses 5 6)
+    ∷ unless 6 2 (bytes "raw: \"\\400\"") (refuses 11 5 1 6)
+    ∷ unless 7 1 (bytes "9: 4") (refuses 5 0 1 1)
+    ∷ unless 7 1 (bytes "mode: : 7") (refuses 5 6 1 7)
     ∷ []
 
 -- a text one byte over the limit, and one at it
@@ -123,7 +126,7 @@ unfolding same each all any find bit bits
     rankOf valueOf treeOf sameVal has keyOf hasKey sharing replaced insert canon meaning nameOf valueNames names knows knowsAll hasName allNamed classes class
     integers.front integers.digitValue integers.hexAhead integers.integerLength integers.runsOn integers.worth integers.integerValue
     integers.mostUnsigned integers.mostSigned integers.signed
-    gap inside integerScan scanFrom skip scan
+    newlines behind gap inside integerScan scanFrom skip scan
     escapes findEscape octalPiece hexPiece escapePiece firstPiece decodeF decode barred turns loop
     read.unsigned read.negated read.signedValue read.boolValue read.enumValue read.stringValue read.scalar
     read.afterName read.opened read.field read.default read.defaultValue read.closed read.again read.noted
@@ -144,7 +147,7 @@ pub limited : limits ≡ limitsExpected
 limited = computed .2
 
 -- and so is the limit of the text: one byte more, and any text is refused 3
-pub too-long : (text : List ℕ) → length text ≡ 1048577 → (count size : ℕ) → read.readAnswer older 0 text count size ≡ denied textTooLong (place 0)
+pub too-long : (text : List ℕ) → length text ≡ 1048577 → (count size : ℕ) → read.readAnswer older 0 text count size ≡ denied textTooLong (unplaced 0)
 unfolding read.readAnswer
 too-long text h count size = rw (h, barred-over) refl
   where

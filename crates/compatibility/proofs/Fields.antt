@@ -13,7 +13,6 @@ use borrow.Author.Tests.{eqb-true, eqb-false}
 use Rattle.definitions.specs.declared.Spot.{Spot}
 use Rattle.definitions.specs.declared.Want.{Want}
 use Rattle.definitions.specs.Basics.{each}
-use Rattle.definitions.specs.Refusals.{place}
 use Rattle.definitions.specs.Image.{enumCount, enumeration, member, memberName, findMember, findNumber}
 use Rattle.definitions.specs.Classes.{class, classes}
 use Rattle.definitions.specs.Scope.{nests, i32, i64, u32, u64, bool, string, byteString, enum}
@@ -22,6 +21,7 @@ use Rattle.definitions.specs.Utf8.{utf8}
 use Rattle.definitions.specs.Integers.{runsOn, mostUnsigned}
 use Rattle.definitions.specs.Live.{Val, number, run, inside, Tree, nil, node}
 use Rattle.definitions.specs.Names.{valueNamed, valueNames, knows}
+use Rattle.definitions.specs.Places.{placeOf}
 use Rattle.definitions.specs.Loop.{Out, done, refused, ahead}
 use Rattle.definitions.specs.Reading.{Child, moved, numberLeaf, runLeaf, nested, memberFound, afterName, scalar, stringValue, trueName, falseName, field}
 use Rattle.definitions.specs.Print.{decimal, signedDecimal, quoted, numberText}
@@ -37,25 +37,26 @@ use Rattle.trees.proofs.Trees.{Wants}
 
 -- ---- a refusal, or what comes else
 
-abbrev pub orMiss : Option Spelled → Out → Out
-orMiss none o = o
-orMiss (some x) o = refused (refusalOf (x .name)) (place (x .at))
+-- the refusal of a lacking name at its place in the text, or what comes else
+abbrev pub orMiss : (text : List ℕ) → Option Spelled → Out → Out
+orMiss text none o = o
+orMiss text (some x) o = refused (refusalOf (x .name)) (placeOf text (x .at))
 
 abbrev pub orElse : Option Spelled → Option Spelled → Option Spelled
 orElse none o = o
 orElse (some x) o = some x
 
-pub miss-else : (a b : Option Spelled) (o : Out) → orMiss a (orMiss b o) ≡ orMiss (orElse a b) o
-miss-else none b o = refl
-miss-else (some x) b o = refl
+pub miss-else : (text : List ℕ) (a b : Option Spelled) (o : Out) → orMiss text a (orMiss text b o) ≡ orMiss text (orElse a b) o
+miss-else text none b o = refl
+miss-else text (some x) b o = refl
 
-pub ahead-miss : (w b : List ℕ) (m : Option Spelled) (o : Out) → ahead w b (orMiss m o) ≡ orMiss m (ahead w b o)
-ahead-miss w b none o = refl
-ahead-miss w b (some x) o = refl
+pub ahead-miss : (text w b : List ℕ) (m : Option Spelled) (o : Out) → ahead w b (orMiss text m o) ≡ orMiss text m (ahead w b o)
+ahead-miss text w b none o = refl
+ahead-miss text w b (some x) o = refl
 
-pub nested-miss : (w : Want) (m : Option Spelled) (o : Out) → nested w (orMiss m o) ≡ orMiss m (nested w o)
-nested-miss w none o = refl
-nested-miss w (some x) o = refl
+pub nested-miss : (text : List ℕ) (w : Want) (m : Option Spelled) (o : Out) → nested w (orMiss text m o) ≡ orMiss text m (nested w o)
+nested-miss text w none o = refl
+nested-miss text w (some x) o = refl
 
 pub lacking-append : (s : List ℕ) (xs ys : List Spelled) → lacking s (xs ++ ys) ≡ orElse (lacking s xs) (lacking s ys)
 unfolding lacking
@@ -216,7 +217,7 @@ module _ (N O s : List ℕ) (okN : Accepted N) (okO : Accepted O) (x : Extends N
   pub over-enum : (n i : ℕ) → k ≡ enum → findNumber N (w .reference) (n % word32) ≡ some i → SignedIn 32 n
       → drop (q .at) s ≡ 58 ∷ 32 ∷ (numberText N w k n ++ z)
       → field child O s v q
-      ≡ orMiss (lacking O (spelledAt (q .at + 2) (valueNames N w k (number n))))
+      ≡ orMiss s (lacking O (spelledAt (q .at + 2) (valueNames N w k (number n))))
       (fieldDone k r q (q .at + suc (suc (length (numberText N w k n)))) (number n) nil)
   unfolding lacking knows
   over-enum n i e f b d =
@@ -230,7 +231,7 @@ module _ (N O s : List ℕ) (okN : Accepted N) (okO : Accepted O) (x : Extends N
       let vk : v .kind ≡ enum = wants .kind ∙ sym kind-is ∙ e in
       let ident = member-identifier N okN i (member-within N okN (w .reference) here i (fn .0)) in
       let start : field child O s v q
-      ≡ memberFound O v (moved (q .at + 1) q) (place (q .at + 1 + 1)) (q .at + 1 + 1 + length (memberName N i))
+      ≡ memberFound O v (moved (q .at + 1) q) (placeOf s (q .at + 1 + 1)) (q .at + 1 + 1 + length (memberName N i))
       (findMember O (v .reference) (memberName N i)) =
       field-scalar child O s v q (rw vk refl) (32 ∷ (memberName N i ++ z)) d′ ∙ scalar-enum O s v (moved (q .at + 1) q) vk
       ∙ reads-member s v (32 ∷ []) z space (moved (q .at + 1) q) O (memberName N i) d₁ stops ident in
@@ -239,9 +240,9 @@ module _ (N O s : List ℕ) (okN : Accepted N) (okO : Accepted O) (x : Extends N
       split : (v .reference ≡ w .reference) × (v .reference < enumCount O)
           → In (enumeration N (w .reference)) i × (member N i .number ≡ n % word32) → (o : Option ℕ)
           → findMember O (v .reference) (memberName N i) ≡ o
-          → memberFound O v (moved (q .at + 1) q) (place (q .at + 1 + 1)) (q .at + 1 + 1 + length (memberName N i))
+          → memberFound O v (moved (q .at + 1) q) (placeOf s (q .at + 1 + 1)) (q .at + 1 + 1 + length (memberName N i))
           (findMember O (v .reference) (memberName N i))
-          ≡ orMiss (lacking O (spelledAt (q .at + 2) (valueNamed (w .reference) (memberName N i) ∷ [])))
+          ≡ orMiss s (lacking O (spelledAt (q .at + 2) (valueNamed (w .reference) (memberName N i) ∷ [])))
           (fieldDone k r q (q .at + suc (suc (length (memberName N i)))) (number n) nil)
       split m fn none p =
           let y : q .at + 1 + 1 ≡ q .at + 2 = omega arith in

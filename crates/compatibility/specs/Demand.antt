@@ -5,7 +5,7 @@
 --   * if the older schema knows every live name, it reads the text, and what it reads has the same live values under the same names,
 --     in the same order;
 --   * if not, it refuses the text: 6 or 7, as the first live name of the text that it lacks is a field's or an enum value's, at that
---     name's offset.
+--     name's place: its offset, line and column in the text.
 use Prim.Native.Nat.{ℕ, suc, _+_, _%_, _≤_}
 use mathlib.Core.Path.{_≡_}
 use mathlib.Core.Bool.{Bool, true, false, _&&_}
@@ -15,7 +15,7 @@ use lib.Dec.{ltb, leb, eqb}
 use lib.ListN.{length}
 use Rattle.definitions.specs.declared.Want.{Want}
 use Rattle.definitions.specs.Basics.{if_then_else_, each, part}
-use Rattle.definitions.specs.Refusals.{given, denied, place, unknownField, unknownValue, mostText}
+use Rattle.definitions.specs.Refusals.{given, denied, unknownField, unknownValue, mostText}
 use Rattle.definitions.specs.Image.{accepted, isMessage, findNumber}
 use Rattle.definitions.specs.Extending.{extends}
 use Rattle.definitions.specs.Scope.{Scope, inMessage, want, within, nameIn, enum}
@@ -23,6 +23,7 @@ use Rattle.definitions.specs.Nodes.{word32}
 use Rattle.definitions.specs.Validity.{valid}
 use Rattle.definitions.specs.Live.{Val, number, run, inside, Tree, nil, node, firstUnknown, meaning, MeanSame}
 use Rattle.definitions.specs.Names.{Name, fieldNamed, valueNamed, nameOf, valueNames, names, knows, isSome}
+use Rattle.definitions.specs.Places.{placeOf}
 use Rattle.definitions.specs.Reading.{nodeRoom, readAnswer, readNodes, readPool}
 use Rattle.definitions.specs.Print.{Style, label, lead, trail, opening, valueText, render, printText}
 use Rattle.trees.specs.Laying.{size, laidBytes}
@@ -134,12 +135,12 @@ pub record Reads (newer older : List ℕ) (root : ℕ) (w pool text nodes bytes 
       (z : Style)
       → printText older z root (tableRead older root text nodes bytes) (poolRead older root text nodes bytes) ≡ printText newer z root w pool
 
--- refused, whatever the room: 6 or 7 at the first live name of the text that the older schema lacks, which does stand there
+-- refused, whatever the room: 6 or 7 at the place of the first live name of the text that the older schema lacks, which does stand there
 pub record Refuses (older : List ℕ) (root : ℕ) (text : List ℕ) (spellings : List Spelled) : Type 0 where
   pub first : Spelled
   pub lacks : lacking older spellings ≡ some first
   pub stands : part text (first .at) (first .at + length (spelling (first .name))) ≡ spelling (first .name)
-  pub answer : (count size : ℕ) → readAnswer older root text count size ≡ denied (refusalOf (first .name)) (place (first .at))
+  pub answer : (count size : ℕ) → readAnswer older root text count size ≡ denied (refusalOf (first .name)) (placeOf text (first .at))
 
 pub record Demand (newer older : List ℕ) (root : ℕ) (w pool : List ℕ) (y : Style) : Type 0 where
   pub known :

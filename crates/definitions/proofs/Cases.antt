@@ -71,13 +71,13 @@ judged newer older = accepted older ∷ extends newer older ∷ []
 
 pub data Outcome : Type 0 where
   reads : (words pool compactText prettyText : List ℕ) → Outcome
-  refuses : (why at : ℕ) → Outcome
+  refuses : (why : ℕ) → (offset line column : ℕ) → Outcome
 
 abbrev pub shown : List ℕ → List ℕ → List ℕ → Outcome
 shown schema w pool = reads w pool (printText schema compact 0 w pool) (printText schema pretty 0 w pool)
 
 abbrev pub outcomeOf : List ℕ → List ℕ → Answer Made → Outcome
-outcomeOf schema s (denied why at) = refuses why (at .offset)
+outcomeOf schema s (denied why at) = refuses why (at .offset) (at .line) (at .column)
 outcomeOf schema s (given made) = shown schema (wordsOf (whole schema 0 s)) (bytesOf (whole schema 0 s))
 
 pub record Case : Type 0 where
@@ -90,11 +90,11 @@ outcome c = outcomeOf (c .schema) (c .text) (readAnswer (c .schema) 0 (c .text) 
 -- ---- any call's refusal, or none
 
 pub data Refusal : Type 0 where
-  by : (why at : ℕ) → Refusal
+  by : (why : ℕ) → (offset line column : ℕ) → Refusal
   granted : Refusal
 
 abbrev pub refusal : {A : Type 0} → Answer A → Refusal
-refusal (denied why at) = by why (at .offset)
+refusal (denied why at) = by why (at .offset) (at .line) (at .column)
 refusal (given a) = granted
 
 -- no text, read under message 0
@@ -107,7 +107,7 @@ reading schema s = refusal (fitted 1000 1000 (whole schema 0 s))
 
 -- what a body read is refused for
 abbrev pub ended : Out → Refusal
-ended (refused why at) = by why (at .offset)
+ended (refused why at) = by why (at .offset) (at .line) (at .column)
 ended (done q w b) = granted
 
 -- a text read as the body of message 0, with so many levels left below it
@@ -116,5 +116,5 @@ levels left schema s = ended (readBody left schema s (inMessage 0) endOfText (re
 
 -- a text of so many bytes, before it is looked at
 abbrev pub ofLength : Option ℕ → Refusal
-ofLength (some why) = by why 0
+ofLength (some why) = by why 0 0 0
 ofLength none = granted

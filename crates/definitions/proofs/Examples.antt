@@ -1,8 +1,9 @@
 -- The examples, by computing: (a) to (j) of document 01, one statement over a list; each refusal 1 to 18 beside its nearest
--- neighbour that is granted, one statement over a list; the limits; prints of tables that no text makes, one statement over a list; and what a
+-- neighbour that is granted, one statement over a list; the places of 02 §1, one statement over a list; the limits; prints of tables that no text makes, one statement over a list; and what a
 -- schema extends and what not, one statement over a list.
 use mathlib.Core.Path.{_≡_, refl}
 use Prim.Native.Nat.{ℕ}
+use Prim.Native.String.{String}
 use mathlib.Core.Bool.{Bool, true, false}
 use mathlib.Core.List.{List, [], _∷_, _++_, map}
 use Rattle.definitions.specs.Basics.{bytes, same, each, all, any, find}
@@ -17,6 +18,7 @@ use Rattle.definitions.specs.Validity.{inRange, runGood, valueGood, isNi
 use Rattle.definitions.specs.Live.{rankOf, valueOf, treeOf, sameVal, has, keyOf, hasKey, sharing, replaced, insert, canon, meaning}
 use Rattle.definitions.specs.Classes.{classes, class}
 use Rattle.definitions.specs.Integers as integers
+use Rattle.definitions.specs.Places.{newlines, behind}
 use Rattle.definitions.specs.Tokens.{gap, inside, integerScan, scanFrom, skip, scan}
 use Rattle.definitions.specs.Strings.{escapes, findEscape, octalPiece, hexPiece, escapePiece, firstPiece, decodeF, decode}
 use Rattle.definitions.specs.Calls.{barred}
@@ -66,18 +68,18 @@ expected =
     []
     (bytes "id: 9223372036854775807")
     (bytes "id: 9223372036854775807\n")
-    ∷ refuses 9 4
+    ∷ refuses 9 4 1 5
     ∷ reads
     (9 ∷ 0 ∷ 0 ∷ 0 ∷ 2 ∷ 2 ∷ 0 ∷ 2147483648 ∷ 0 ∷ 2 ∷ [])
     []
     (bytes "id: -9223372036854775808")
     (bytes "id: -9223372036854775808\n")
-    ∷ refuses 9 4
-    ∷ refuses 9 4
-    ∷ refuses 5 7
+    ∷ refuses 9 4 1 5
+    ∷ refuses 9 4 1 5
+    ∷ refuses 5 7 1 8
     ∷ reads (9 ∷ 0 ∷ 0 ∷ 0 ∷ 2 ∷ 9 ∷ 3 ∷ 0 ∷ 0 ∷ 2 ∷ []) [] (bytes "child {}") (bytes "child {\n}\n")
-    ∷ refuses 5 7
-    ∷ refuses 5 5
+    ∷ refuses 5 7 1 8
+    ∷ refuses 5 5 1 6
     ∷ reads
     (9 ∷ 0 ∷ 0 ∷ 0 ∷ 3 ∷ 1 ∷ 0 ∷ 0 ∷ 1 ∷ 2 ∷ 1 ∷ 0 ∷ 0 ∷ 2 ∷ 3 ∷ [])
     []
@@ -89,8 +91,8 @@ expected =
     (bytes "limits {key: \"\" value: 0}")
     (bytes "limits {\n  key: \"\"\n  value: 0\n}\n")
     ∷ reads (9 ∷ 0 ∷ 0 ∷ 0 ∷ 2 ∷ 1 ∷ 0 ∷ 0 ∷ 10 ∷ 2 ∷ []) [] (bytes "id: 10") (bytes "id: 10\n")
-    ∷ refuses 4 4
-    ∷ refuses 8 17
+    ∷ refuses 4 4 1 5
+    ∷ refuses 8 17 1 18
     ∷ []
 
 -- ---- refusals
@@ -140,41 +142,87 @@ refusals =
 
 abbrev refusalsExpected : List Refusal
 refusalsExpected =
-    by 1 0  -- an empty image
-    ∷ by 1 0  -- a name that starts with a digit
+    by 1 0 0 0  -- an empty image
+    ∷ by 1 0 0 0  -- a name that starts with a digit
     ∷ granted
     ∷ granted
-    ∷ by 2 0
+    ∷ by 2 0 0 0
     ∷ granted
-    ∷ by 3 0
+    ∷ by 3 0 0 0
     ∷ granted
-    ∷ by 4 6
-    ∷ by 5 12
-    ∷ by 6 6
-    ∷ by 6 8  -- an entry's field that is not `key` or `value`
-    ∷ by 7 3
+    ∷ by 4 6 1 7
+    ∷ by 5 12 1 13
+    ∷ by 6 6 1 7
+    ∷ by 6 8 1 9  -- an entry's field that is not `key` or `value`
+    ∷ by 7 3 1 4
     ∷ granted
-    ∷ by 8 13
-    ∷ by 9 17
-    ∷ by 10 10  -- the end of the text, where a bool is wanted
-    ∷ by 11 13  -- an escape over 255
-    ∷ by 11 6  -- a string that is not UTF-8
+    ∷ by 8 13 1 14
+    ∷ by 9 17 1 18
+    ∷ by 10 10 1 11  -- the end of the text, where a bool is wanted
+    ∷ by 11 13 1 14  -- an escape over 255
+    ∷ by 11 6 1 7  -- a string that is not UTF-8
     ∷ granted  -- a level left
-    ∷ by 12 5  -- none left
+    ∷ by 12 5 1 6  -- none left
     ∷ granted  -- one for the entry and one for its default message
-    ∷ by 12 3  -- one alone, at the entry's closer
-    ∷ by 13 2  -- 13 comes before 14
-    ∷ by 14 2
+    ∷ by 12 3 1 4  -- one alone, at the entry's closer
+    ∷ by 13 2 0 0  -- 13 comes before 14
+    ∷ by 14 2 0 0
     ∷ granted
-    ∷ by 15 0  -- an end past the words
-    ∷ by 15 0  -- a string past the pool
-    ∷ by 16 10
+    ∷ by 15 0 0 0  -- an end past the words
+    ∷ by 15 0 0 0  -- a string past the pool
+    ∷ by 16 10 0 0
     ∷ granted
-    ∷ by 17 0
+    ∷ by 17 0 0 0
     ∷ granted
-    ∷ by 18 0  -- the root is no string
+    ∷ by 18 0 0 0  -- the root is no string
     ∷ granted
-    ∷ by 18 0  -- no such node
+    ∷ by 18 0 0 0  -- no such node
+    ∷ []
+
+-- ---- places: line and column (02 §1)
+
+-- the bytes of two texts with one byte between them: 10 the newline, 13 the return, 11 and 12 the vertical tab and form feed
+abbrev parted : String → ℕ → String → List ℕ
+parted a b c = bytes a ++ (b ∷ bytes c)
+
+abbrev places : List Refusal
+places =
+    reading schemaX (parted "q: 1" 13 "nope")
+    ∷ reading schemaX (parted "q: 1" 10 "nope")
+    ∷ reading schemaX (bytes "q: 1" ++ (13 ∷ parted "" 10 "nope"))
+    ∷ reading schemaX (parted "q: 1" 11 "nope")
+    ∷ reading schemaX (parted "q: 1" 12 "nope")
+    ∷ reading schemaX (parted "q: 1" 9 "nope")
+    ∷ reading schemaX (bytes "y: '" ++ (195 ∷ 169 ∷ bytes "' nope"))
+    ∷ reading schemaX (parted "q:" 10 "")
+    ∷ reading schemaX (bytes "m { # c")
+    ∷ reading schemaX (parted "b:" 10 "" ++ (9 ∷ []))
+    ∷ reading schemaX (parted "y: 'a" 10 "b' nope")
+    ∷ reading schemaX (parted "# a" 10 "" ++ parted "# b" 10 " q: 08")
+    ∷ reading schemaX (parted "q: -" 10 " 2147483649")
+    ∷ reading schemaX (parted "mm {key: 1" 10 "key: 2}")
+    ∷ levels 1 schemaX (parted "m {" 10 "m {}}")
+    ∷ levels 1 schemaX (parted "mm {" 10 "}")
+    ∷ []
+
+abbrev placesExpected : List Refusal
+placesExpected =
+    by 6 5 1 6  -- a return ends no line
+    ∷ by 6 5 2 1
+    ∷ by 6 6 2 1  -- nor does one before a newline
+    ∷ by 6 5 1 6
+    ∷ by 6 5 1 6
+    ∷ by 6 5 1 6
+    ∷ by 6 8 1 9  -- a letter of two bytes takes two columns
+    ∷ by 5 3 2 1  -- the end of the text
+    ∷ by 5 7 1 8
+    ∷ by 10 4 2 2
+    ∷ by 4 3 1 4  -- a string with a newline, at its quote
+    ∷ by 4 12 3 5  -- newlines at the end of comments
+    ∷ by 9 6 2 2  -- the first digit
+    ∷ by 8 11 2 1  -- the second name
+    ∷ by 12 6 2 3  -- the opener
+    ∷ by 12 5 2 1  -- the entry's closer, for a default message
     ∷ []
 
 -- ---- limits
@@ -272,7 +320,7 @@ extensionsExpected =
     ∷ no  -- fields that the newer does not have
     ∷ []
 
-computed : (map outcome cases ≡ expected) × (refusals ≡ refusalsExpected) × (limits ≡ limitsExpected) × (prints ≡ printsExpected) × (map (judged newer) olders ≡ extensionsExpected)
+computed : (map outcome cases ≡ expected) × (refusals ≡ refusalsExpected) × (places ≡ placesExpected) × (limits ≡ limitsExpected) × (prints ≡ printsExpected) × (map (judged newer) olders ≡ extensionsExpected)
 unfolding same each all any find bit bits
     form messageCount fieldCount enumCount valueCount nameCount messagesAt fieldsAt enumsAt valuesAt namesAt imageLength
     message enumeration fieldAt field memberAt member identifier nameText fieldName memberName nameGood total running typeGood
@@ -282,14 +330,14 @@ unfolding same each all any find bit bits
     rankOf valueOf treeOf sameVal has keyOf hasKey sharing replaced insert canon meaning classes class
     integers.front integers.digitValue integers.hexAhead integers.integerLength integers.runsOn integers.worth integers.integerValue
     integers.mostUnsigned integers.mostSigned integers.signed
-    gap inside integerScan scanFrom skip scan
+    newlines behind gap inside integerScan scanFrom skip scan
     escapes findEscape octalPiece hexPiece escapePiece firstPiece decodeF decode barred turns loop
     read.unsigned read.negated read.signedValue read.boolValue read.enumValue read.stringValue read.scalar
     read.afterName read.opened read.field read.default read.defaultValue read.closed read.again read.noted
     read.item read.fields read.under read.readBody read.whole read.readBarred read.readAnswer
     print.digits print.decimal print.signedDecimal print.quoteByte print.quoteBytes print.quoted print.numberText print.label
     print.indent print.lead print.trail print.opening print.closing print.render print.printText print.printAnswer filled filledIn filledBelow complete requiredAnswer isValue valueAnswer
-computed = (refl, refl, refl, refl, refl)
+computed = (refl, refl, refl, refl, refl, refl)
 
 pub examples : map outcome cases ≡ expected
 examples = computed .0
@@ -297,11 +345,14 @@ examples = computed .0
 pub refused : refusals ≡ refusalsExpected
 refused = computed .1
 
+pub placed : places ≡ placesExpected
+placed = computed .2
+
 pub limited : limits ≡ limitsExpected
-limited = computed .2
+limited = computed .3
 
 pub printed : prints ≡ printsExpected
-printed = computed .3
+printed = computed .4
 
 pub extended : map (judged newer) olders ≡ extensionsExpected
-extended = computed .4
+extended = computed .5

@@ -6,7 +6,7 @@ use mathlib.Core.List.{List}
 use mathlib.Core.Option.{Option, none, some}
 use lib.Seq.{sets}
 use Rattle.definitions.specs.Basics.{if_then_else_}
-use Rattle.definitions.specs.Refusals.{Answer, given, denied, place, badSchema, noMessage}
+use Rattle.definitions.specs.Refusals.{Answer, given, denied, unplaced, badSchema, noMessage}
 use Rattle.definitions.specs.Image.{accepted, isMessage}
 
 -- 1, 2, then the call's own first refusal, if its test fails
@@ -17,7 +17,7 @@ barred schema root test why =
     if not (test tt) then (λ _. some why) else λ _. none
 
 abbrev pub unbarred : {A : Type 0} → Option ℕ → (Unit {0} → Answer A) → Answer A
-unbarred (some why) rest = denied why (place 0)
+unbarred (some why) rest = denied why (unplaced 0)
 unbarred none rest = rest tt
 
 -- what a lent room holds afterwards: what the call made, from the start on, the rest as it was; refused, all as it was

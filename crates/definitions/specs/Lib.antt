@@ -12,6 +12,7 @@ pub mod Validity
 pub mod Live
 pub mod Classes
 pub mod Integers
+pub mod Places
 pub mod Tokens
 pub mod Strings
 pub mod Calls

@@ -4,7 +4,7 @@ use mathlib.Core.Bool.{Bool}
 use mathlib.Core.List.{List, _++_}
 use Rattle.definitions.specs.declared.Spot.{Spot}
 use Rattle.definitions.specs.declared.Place.{Place}
-use Rattle.definitions.specs.Refusals.{place}
+use Rattle.definitions.specs.Refusals.{unplaced}
 
 -- what reading gives: the spot after, with the node words and pool bytes made on the way; or a refusal with its place
 pub data Out : Type 0 where
@@ -31,7 +31,7 @@ onward rest (more h w b) = ahead w b (rest h)
 
 -- at most so many turns
 unfoldable pub turns : ℕ → (Stand → Turn) → Stand → Out
-turns zero turn h = refused 0 (place 0)
+turns zero turn h = refused 0 (unplaced 0)
 turns (suc f) turn h = onward (turns f turn) (turn h)
 
 -- over a text of n bytes, of which each turn that goes on takes at least one

@@ -7,7 +7,7 @@ use lib.Dec.{ltb, leb, eqb}
 use lib.ListN.{length, replicate}
 use Rattle.definitions.specs.declared.Want.{Want}
 use Rattle.definitions.specs.Basics.{if_then_else_, bytes, between}
-use Rattle.definitions.specs.Refusals.{Answer, given, denied, place, badTable, bufferShort}
+use Rattle.definitions.specs.Refusals.{Answer, given, denied, unplaced, badTable, bufferShort}
 use Rattle.definitions.specs.Image.{memberName, findNumber}
 use Rattle.definitions.specs.Scope.{Scope, inMessage, want, within, nameIn, i32, i64, bool, enum}
 use Rattle.definitions.specs.Nodes.{word32, word64}
@@ -120,7 +120,7 @@ printText s y root w pool = render s y 0 true (inMessage root) (meaning s root w
 -- ---- the answer: 1, 2, 15, 16
 
 abbrev pub printFitted : ℕ → ℕ → Answer ℕ
-printFitted room count = if ltb room count then (λ _. denied bufferShort (place count)) else λ _. given count
+printFitted room count = if ltb room count then (λ _. denied bufferShort (unplaced count)) else λ _. given count
 
 unfoldable pub printAnswer : (schema : List ℕ) (y : Style) (root : ℕ) (w pool : List ℕ) (room : ℕ) → Answer ℕ
 printAnswer schema y root w pool room =

@@ -11,7 +11,7 @@ use Rattle.definitions.specs.declared.Spot.{Spot}
 use Rattle.definitions.specs.declared.Place.{Place}
 use Rattle.definitions.specs.declared.Want.{Want}
 use Rattle.definitions.specs.Basics.{if_then_else_, bytes, same, part}
-use Rattle.definitions.specs.Refusals.{Answer, given, denied, place, textTooLong, badToken, otherExpected, unknownField, unknownValue, twice, overflow, notBool, badString, tooDeep, nodesShort, poolShort, mostText, mostNodes, mostDepth}
+use Rattle.definitions.specs.Refusals.{Answer, given, denied, unplaced, textTooLong, badToken, otherExpected, unknownField, unknownValue, twice, overflow, notBool, badString, tooDeep, nodesShort, poolShort, mostText, mostNodes, mostDepth}
 use Rattle.definitions.specs.Image.{enumeration, member, findMember}
 use Rattle.definitions.specs.Calls.{barred, unbarred, stored}
 use Rattle.definitions.specs.Scope.{Scope, inMessage, inEntry, want, within, findIn, nests, i32, i64, u32, u64, bool, string, byteString, enum, body, mapEntry}
@@ -278,8 +278,8 @@ nodeRoom count = min (count / 5) mostNodes
 abbrev pub fitted : ℕ → ℕ → Out → Answer Made
 fitted count size (refused why at) = denied why at
 fitted count size (done q w b) =
-    if ltb (nodeRoom count) (q .node) then (λ _. denied nodesShort (place (q .node))) else λ _.
-    if ltb size (q .byte) then (λ _. denied poolShort (place (q .byte))) else λ _.
+    if ltb (nodeRoom count) (q .node) then (λ _. denied nodesShort (unplaced (q .node))) else λ _.
+    if ltb size (q .byte) then (λ _. denied poolShort (unplaced (q .byte))) else λ _.
     given (record { nodes = q .node; bytes = q .byte })
 
 unfoldable pub readAnswer : (schema : List ℕ) (root : ℕ) (s : List ℕ) (count size : ℕ) → Answer Made

@@ -2,9 +2,9 @@
 use Prim.Native.Nat.{ℕ}
 use Rattle.definitions.specs.declared.Place.{Place}
 
--- an offset in the text, or the number that goes with a refusal
-abbrev pub place : ℕ → Place
-place n = record { offset = n }
+-- no place in the text, but the number that goes with a refusal: line 0, column 0 (02 §1)
+abbrev pub unplaced : ℕ → Place
+unplaced n = record { offset = n; line = 0; column = 0 }
 
 -- what is asked for, or a refusal's number with its place
 pub data Answer (A : Type 0) : Type 0 where

@@ -4,7 +4,7 @@ use mathlib.Core.Bool.{Bool, true, false, _&&_, _||_, not}
 use mathlib.Core.List.{List}
 use Rattle.definitions.specs.declared.Span.{Span}
 use Rattle.definitions.specs.Basics.{if_then_else_, all}
-use Rattle.definitions.specs.Refusals.{Answer, given, denied, place, badTable, requiredMissing}
+use Rattle.definitions.specs.Refusals.{Answer, given, denied, unplaced, badTable, requiredMissing}
 use Rattle.definitions.specs.Image.{message, field, isRequired}
 use Rattle.definitions.specs.Scope.{Scope, inMessage, inEntry, want, within, nests}
 use Rattle.definitions.specs.Validity.{valid}
@@ -36,4 +36,4 @@ complete s c t = filledIn s c t && filledBelow s c t
 unfoldable pub requiredAnswer : (schema : List ℕ) (root : ℕ) (w pool : List ℕ) → Answer (Unit {0})
 requiredAnswer schema root w pool =
     unbarred (barred schema root (λ _. valid schema root w pool) badTable)
-    (λ _. if complete schema (inMessage root) (meaning schema root w pool) then (λ _. given tt) else λ _. denied requiredMissing (place 0))
+    (λ _. if complete schema (inMessage root) (meaning schema root w pool) then (λ _. given tt) else λ _. denied requiredMissing (unplaced 0))

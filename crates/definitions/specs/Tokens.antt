@@ -1,4 +1,5 @@
--- Tokens (T, H, "Tokens and grammar"). A text is a list of bytes; a place in it is an offset.
+-- Tokens (T, H, "Tokens and grammar"). A text is a list of bytes. A token begins at a place, with line and column; where reading
+-- goes on is an offset.
 use Prim.Native.Nat.{ℕ, zero, suc, _+_}
 use mathlib.Core.Bool.{Bool, true, false, _&&_, _||_, not}
 use mathlib.Core.List.{List, [], _∷_}
@@ -8,7 +9,7 @@ use lib.ListN.{drop}
 use Rattle.definitions.specs.declared.Token.{Token}
 use Rattle.definitions.specs.declared.Place.{Place}
 use Rattle.definitions.specs.Basics.{if_then_else_}
-use Rattle.definitions.specs.Refusals.{place}
+use Rattle.definitions.specs.Places.{placeOf}
 use Rattle.definitions.specs.Classes.{class, goesOn, quoteClass, newlineClass, spaceClass, commentClass, symbolClass, digitClass, letterClass}
 use Rattle.definitions.specs.Integers.{front, integerLength, runsOn}
 
@@ -47,7 +48,7 @@ openBrace = 123
 abbrev pub closeBrace : ℕ
 closeBrace = 125
 
--- a token with the place after it, or a bad token's first byte
+-- a token with the offset after it, or a bad token's first byte
 pub data Scan : Type 0 where
   token : Token → ℕ → Scan
   bad : Place → Scan
@@ -78,31 +79,31 @@ inside quote slashed (b ∷ bs) =
 
 -- ---- the token that begins at the place p with the byte b
 
-abbrev pub tokenOf : ℕ → ℕ → ℕ → Scan
-tokenOf kind p next = token (record { kind = kind; start = place p }) next
+abbrev pub tokenOf : ℕ → Place → ℕ → Scan
+tokenOf kind p next = token (record { kind = kind; start = p }) next
 
 -- an integer directly followed by a letter, digit, `_` or `.` is bad
-unfoldable pub integerScan : ℕ → ℕ → List ℕ → Scan
+unfoldable pub integerScan : Place → ℕ → List ℕ → Scan
 integerScan p b bs =
-    if runsOn (drop (integerLength b bs) (b ∷ bs)) then (λ _. bad (place p)) else λ _. tokenOf integerToken p (p + integerLength b bs)
+    if runsOn (drop (integerLength b bs) (b ∷ bs)) then (λ _. bad p) else λ _. tokenOf integerToken p (p .offset + integerLength b bs)
 
-abbrev pub stringScan : ℕ → Option ℕ → Scan
-stringScan p none = bad (place p)
-stringScan p (some n) = tokenOf stringToken p (p + n + 2)
+abbrev pub stringScan : Place → Option ℕ → Scan
+stringScan p none = bad p
+stringScan p (some n) = tokenOf stringToken p (p .offset + n + 2)
 
-unfoldable pub scanFrom : ℕ → List ℕ → Scan
-scanFrom p [] = tokenOf endOfText p p
+unfoldable pub scanFrom : Place → List ℕ → Scan
+scanFrom p [] = tokenOf endOfText p (p .offset)
 scanFrom p (b ∷ bs) =
-    if eqb (class b) letterClass then (λ _. tokenOf nameToken p (p + 1 + front goesOn bs)) else λ _.
+    if eqb (class b) letterClass then (λ _. tokenOf nameToken p (p .offset + 1 + front goesOn bs)) else λ _.
     if eqb (class b) digitClass then (λ _. integerScan p b bs) else λ _.
     if eqb (class b) quoteClass then (λ _. stringScan p (inside b false bs)) else λ _.
-    if eqb (class b) symbolClass then (λ _. tokenOf b p (p + 1)) else λ _.
-    bad (place p)
+    if eqb (class b) symbolClass then (λ _. tokenOf b p (p .offset + 1)) else λ _.
+    bad p
 
--- where the next token begins, from a place on
+-- where the next token begins, from an offset on
 unfoldable pub skip : List ℕ → ℕ → ℕ
 skip s at = at + gap false (drop at s)
 
--- the next token from a place on
+-- the next token from an offset on
 unfoldable pub scan : List ℕ → ℕ → Scan
-scan s at = scanFrom (skip s at) (drop (skip s at) s)
+scan s at = scanFrom (placeOf s (skip s at)) (drop (skip s at) s)

@@ -47,10 +47,20 @@ pub struct Node {
     pub end: u32,
 }
 
-// Where a refusal points: an offset in the text, or the number that goes with the refusal.
+// Where a refusal points (02 §1): an offset in the text with its line and column, both counted from 1, the column in bytes; or no
+// place in the text: the number that goes with the refusal, with line 0 and column 0. A text has at most 1,048,576 bytes.
 pub struct Place {
     pub offset: usize,
+    pub line: u32,
+    pub column: u32,
 }
+
+// The place of a refusal that has none, nor a number that goes with it.
+pub const NO_PLACE: Place = Place {
+    offset: 0,
+    line: 0,
+    column: 0,
+};
 
 // A token: what it is, and the place of its first byte. The kinds are those of specs/Tokens.antt.
 pub struct Token {

@@ -17,11 +17,12 @@ use Rattle.definitions.specs.Loop.{Out, done, refused, ahead}
 use Rattle.definitions.specs.Reading.{leaf, default, defaultValue, unless, joined, closed}
 use Rattle.laws.proofs.Reach.{by-test}
 use Rattle.laws.proofs.Goes.{default-goes}
+use Rattle.lexer.specs.declared.tokens.Line.{Line}
 use Rattle.leaves.specs.declared.Answer.{Answer}
 use Rattle.leaves.specs.declared.Answer.the-variants as answer
 use Rattle.leaves.specs.Answers.{answerOf, Wrote, Answers, AnswersHere, standing}
 use Rattle.laws.proofs.Stores.{sets-append}
-use Rattle.leaves.proofs.Returns.{answer-done, answer-no, no-answers, done-answers, wrote-done, answers-by}
+use Rattle.leaves.proofs.Returns.{answer-done, answer-line, answer-no, no-answers, done-answers, wrote-done, answers-by}
 use Rattle.entries.proofs.Wants.{within-entry, within-message}
 
 -- five words a node, and each byte in the pool
@@ -56,9 +57,9 @@ then-stored q p r e x y f g h w v b c m n le lf i j hn hb =
     (two .0 ∙ rw (one .0, ← wn) (sym (sets-append w v e (5 * q .node))), two .1 ∙ rw (one .1, ← wb) (sym (sets-append b c f (q .byte))))
 
 -- a reading after what is read and stored so far
-pub join : (q p : Spot) (e x y f g h w b : List ℕ) (r : Answer) (o : Out) → Laid q p w b → length x ≡ length e → length g ≡ length f
+pub join : {on : ℕ → Line} (q p : Spot) (e x y f g h w b : List ℕ) (r : Answer) (o : Out) → Laid q p w b → length x ≡ length e → length g ≡ length f
     → (5 * p .node ≤ length e → p .byte ≤ length f → (x ≡ sets e (5 * q .node) w) × (g ≡ sets f (q .byte) b))
-    → ((z : Spot) (v c : List ℕ) → o ≡ done z v c → Laid p z v c) → Answers x y g h p o r → Answers e y f h q (ahead w b o) r
+    → ((z : Spot) (v c : List ℕ) → o ≡ done z v c → Laid p z v c) → Answers on x y g h p o r → Answers on e y f h q (ahead w b o) r
 join q p e x y f g h w b r (refused why at) l le lf st k a = record { answer = a .answer; wrote = tt }
 join q p e x y f g h w b r (done z v c) l le lf st k a = record {
   answer = a .answer;
@@ -112,18 +113,21 @@ module _ (deep : Bool) (image : List ℕ) (w : Want) (at : Place) (q : Spot) (ke
     unfolding closed
     closed-entry = rw (within-entry w h) refl
 
-    module _ (e x f : List ℕ) (k : Want) (hk : k ≡ want image (within w) 0) (r : Answer) (a : Answers e x f f q (unless key (default image k) q) r) where
-      first : Answers e x f f q (unless key (default image (want image (within w) 0)) q) r
+    module _ (on : ℕ → Line) (e x f : List ℕ) (k : Want) (hk : k ≡ want image (within w) 0) (r : Answer) (a : Answers on e x f f q (unless key (default image k) q) r) where
+      first : Answers on e x f f q (unless key (default image (want image (within w) 0)) q) r
       first = rw (← hk) a
 
-      pub key-no : (why : ℕ) (p : Place) → r ≡ answer.No why p → Answers e x f f q (closed deep image (within w) at (q .at) (standing q key value)) r
+      pub key-no : (why : ℕ) (p : Place) → r ≡ answer.No why p → Answers on e x f f q (closed deep image (within w) at (q .at) (standing q key value)) r
       key-no why p i =
-          let o : unless key (default image (want image (within w) 0)) q ≡ refused why p = answer-no (unless key (default image (want image (within w) 0)) q) why p (sym i ∙ first .answer) in
+          let o : unless key (default image (want image (within w) 0)) q ≡ refused why p = answer-no on (unless key (default image (want image (within w) 0)) q) why p (sym i ∙ first .answer) in
           no-answers e x f f q _ r why p (closed-entry ∙ rw o refl) i
 
-      module _ (p : Spot) (i : r ≡ answer.Done p) (lx : length x ≡ length e) where
+      module _ (p : Spot) {l : Line} (i : r ≡ answer.Done p l) (lx : length x ≡ length e) where
         out : (v : List ℕ) × (c : List ℕ) × (unless key (default image (want image (within w) 0)) q ≡ done p v c)
-        out = answer-done _ p (sym i ∙ first .answer)
+        out = answer-done on _ p (sym i ∙ first .answer)
+
+        pub key-line : l ≡ on (p .at)
+        key-line = answer-line on (unless key (default image (want image (within w) 0)) q) p (sym i ∙ first .answer)
 
         closed-after : closed deep image (within w) at (q .at) (standing q key value) ≡ ahead (out .0) (out .1) (unless value (defaultValue deep at image (want image (within w) 1)) p)
         closed-after = closed-entry ∙ rw (out .2) refl
@@ -132,27 +136,27 @@ module _ (deep : Bool) (image : List ℕ) (w : Want) (at : Place) (q : Spot) (ke
         key-next = unless-next key image (want image (within w) 0) q p (out .0) (out .1) (out .2)
 
         after : (y : List ℕ) (r₂ : Answer) (o : Out) → o ≡ unless value (defaultValue deep at image (want image (within w) 1)) p → ((z : Spot) (v c : List ℕ) → o ≡ done z v c → Laid p z v c)
-            → Answers x y f f p o r₂ → Answers e y f f q (closed deep image (within w) at (q .at) (standing q key value)) r₂
+            → Answers on x y f f p o r₂ → Answers on e y f f q (closed deep image (within w) at (q .at) (standing q key value)) r₂
         after y r₂ o eo lo b =
             answers-by e y f f q _ _ r₂ (closed-after ∙ ap (ahead (out .0) (out .1)) (sym eo))
             (join q p e x y f f f (out .0) (out .1) r₂ o (unless-laid key image (want image (within w) 0) q p (out .0) (out .1) (out .2)) lx refl
             (wrote-done e x f f q _ p (out .0) (out .1) (out .2) (first .wrote)) lo b)
 
-        pub value-there : value ≡ true → Answers e x f f q (closed deep image (within w) at (q .at) (standing q key value)) (answer.Done p)
+        pub value-there : value ≡ true → Answers on e x f f q (closed deep image (within w) at (q .at) (standing q key value)) (answer.Done p l)
         value-there v =
-            after x (answer.Done p) (done p [] []) (rw v refl)
+            after x (answer.Done p l) (done p [] []) (rw v refl)
             (λ z v c n. let i : p ≡ z = cc in let j : [] ≡ v = cc in let k : [] ≡ c = cc in rw (← i, ← j, ← k) (record { words = omega arith; bytes = omega arith }))
-            (record { answer = refl; wrote = λ _ _. (refl, refl) })
+            (record { answer = ap (answer.Done p) key-line; wrote = λ _ _. (refl, refl) })
 
         module _ (v : value ≡ false) (u : Want) (hu : u ≡ want image (within w) 1) where
-          pub value-deep : true ≡ (deep && eqb (u .kind) body) → Answers e x f f q (closed deep image (within w) at (q .at) (standing q key value)) (answer.No tooDeep at)
+          pub value-deep : true ≡ (deep && eqb (u .kind) body) → Answers on e x f f q (closed deep image (within w) at (q .at) (standing q key value)) (answer.No tooDeep at)
           unfolding defaultValue
           value-deep d =
               after x (answer.No tooDeep at) (refused tooDeep at) (rw (v, ← hu, ← d) refl)
               (λ z v c n. let k : _≡_ {A = ℕ} 0 1 = cc in absurd (omega arith))
               (record { answer = refl; wrote = tt })
 
-          pub value-made : false ≡ (deep && eqb (u .kind) body) → (y : List ℕ) (r₂ : Answer) → Answers x y f f p (default image u p) r₂
-              → Answers e y f f q (closed deep image (within w) at (q .at) (standing q key value)) r₂
+          pub value-made : false ≡ (deep && eqb (u .kind) body) → (y : List ℕ) (r₂ : Answer) → Answers on x y f f p (default image u p) r₂
+              → Answers on e y f f q (closed deep image (within w) at (q .at) (standing q key value)) r₂
           unfolding defaultValue
           value-made d y r₂ b = after y r₂ (default image u p) (rw (v, ← hu, ← d) refl) (λ z v c n. default-laid image u p z v c n) b

@@ -8,6 +8,8 @@ use definitions::refusals;
 use leaves::Answer;
 use leaves::put_number;
 use leaves::widened;
+use lexer::Cursor;
+use lexer::Line;
 use records::Found;
 use records::Layout;
 ghost use mathlib.Core.Path.{_≡_};
@@ -18,7 +20,7 @@ ghost use Rattle.definitions.specs.Refusals.{mostText};
 ghost use Rattle.definitions.specs.Scope.{want, within, findIn, nests, string, byteString, body};
 ghost use Rattle.definitions.specs.Reading.{default, unless, closed, again};
 ghost use Rattle.records.specs.Known.{Known, foundOf};
-ghost use Rattle.leaves.specs.Answers.{Fits, Holds, AnswersHere, Inside, standing, KeyNoted, ValueNoted};
+ghost use Rattle.leaves.specs.Answers.{Fits, Holds, AnswersUpTo, Inside, standing, KeyNoted, ValueNoted};
 
 // The field of that name in a message, or in an entry of a map: `key` or `value`.
 pub fn find_in(image: &[u8], layout: Layout, w: Want, guess: usize, name: &[u8]) -> Found
@@ -86,11 +88,21 @@ fn is_run(kind: u8) -> bool
 }
 
 // A missing key or value as its default: 0, false, empty, the enum's first value, an empty message.
-fn put_default(image: &[u8], layout: Layout, w: Want, q: Spot, nodes: &mut [u32]) -> Answer
+fn put_default(
+    image: &[u8],
+    layout: Layout,
+    w: Want,
+    q: Spot,
+    line: Line,
+    nodes: &mut [u32],
+) -> Answer
     requires { ⌜ Known (now image) layout × Holds w q × Fits (now image) w ⌝ }
-    ensures { λ r. ⌜ AnswersHere (now (nodes .entry)) (now (nodes .exit)) q (default (now (image .entry)) w q) r ⌝ }
+    ensures { λ r. ⌜ AnswersUpTo (record { at = q .at; line = line }) (now (nodes .entry)) (now (nodes .exit)) q (default (now (image .entry)) w q) r ⌝ }
 {
-    let at = q.at;
+    let at = Cursor {
+        at: q.at,
+        line: line,
+    };
     let kind = w.kind;
     if is_run(kind) {
         let v = (q.byte as u64) * 4294967296;
@@ -112,15 +124,16 @@ fn put_missing(
     layout: Layout,
     w: Want,
     q: Spot,
+    line: Line,
     nodes: &mut [u32],
 ) -> Answer
     requires { ⌜ Known (now image) layout × Holds w q × Fits (now image) w ⌝ }
-    ensures { λ r. ⌜ AnswersHere (now (nodes .entry)) (now (nodes .exit)) q (unless there (default (now (image .entry)) w) q) r ⌝ }
+    ensures { λ r. ⌜ AnswersUpTo (record { at = q .at; line = line }) (now (nodes .entry)) (now (nodes .exit)) q (unless there (default (now (image .entry)) w) q) r ⌝ }
 {
     if there {
-        return Answer::Done(q);
+        return Answer::Done(q, line);
     }
-    put_default(image, layout, w, q, nodes)
+    put_default(image, layout, w, q, line, nodes)
 }
 
 // A default message counts as a level.
@@ -141,29 +154,30 @@ pub fn close_body(
     deep: bool,
     at: Place,
     q: Spot,
+    line: Line,
     key: bool,
     value: bool,
     nodes: &mut [u32],
 ) -> Answer
     requires { ⌜ Known (now image) layout × Fits (now image) w × (q .node ≤ mostText + 1) × (q .byte ≤ mostText) ⌝ }
-    ensures { λ r. ⌜ AnswersHere (now (nodes .entry)) (now (nodes .exit)) q (closed deep (now (image .entry)) (within w) at (q .at) (standing q key value)) r ⌝ }
+    ensures { λ r. ⌜ AnswersUpTo (record { at = q .at; line = line }) (now (nodes .entry)) (now (nodes .exit)) q (closed deep (now (image .entry)) (within w) at (q .at) (standing q key value)) r ⌝ }
 {
     if w.kind != kinds::ENTRY {
-        return Answer::Done(q);
+        return Answer::Done(q, line);
     }
     let k = want_in(image, layout, w, 0);
-    let first = put_missing(key, image, layout, k, q, nodes);
-    let Answer::Done(next) = first else {
+    let first = put_missing(key, image, layout, k, q, line, nodes);
+    let Answer::Done(next, on) = first else {
         return first;
     };
     let v = want_in(image, layout, w, 1);
     if value {
-        return Answer::Done(next);
+        return Answer::Done(next, on);
     }
     if is_too_deep(deep, v.kind) {
         return Answer::No(refusals::TOO_DEEP, at);
     }
-    put_default(image, layout, v, next, nodes)
+    put_default(image, layout, v, next, on, nodes)
 }
 
 // `key` or `value` of an entry, a second time.

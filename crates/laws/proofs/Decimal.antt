@@ -9,6 +9,7 @@ use lib.Dec.{ltb, leb, eqb}
 use lib.ListN.{length, length-append}
 use lib.Seq.{drop-append-seam}
 use borrow.Author.Tests.{ltb-true, ltb-false, lt-ltb, le-ltb, leb-true, le-leb, eqb-true, ne-eqb}
+use Rattle.definitions.specs.declared.Place.{Place}
 use Rattle.definitions.specs.Basics.{each, all}
 use Rattle.definitions.specs.Image.{letter, digit}
 use Rattle.definitions.specs.Classes.{class, goesOn, digitClass}
@@ -189,11 +190,11 @@ integerLength-decimal (suc n) b bs r e h =
     rw (ne-eqb b 48 (decimal-nonzero (suc n) b bs (omega arith) e), front-each digit bs r (and-parts (digit b) (each digit bs) all-digits .1) (runsOn-digit r h))
     (omega arith)
 
-pub scan-decimal : (p n : ℕ) (r : List ℕ) → runsOn r ≡ false → scanFrom p (decimal n ++ r) ≡ tokenOf integerToken p (p + length (decimal n))
+pub scan-decimal : (p : Place) (n : ℕ) (r : List ℕ) → runsOn r ≡ false → scanFrom p (decimal n ++ r) ≡ tokenOf integerToken p (p .offset + length (decimal n))
 unfolding scanFrom integerScan each
 scan-decimal p n r h = go (decimal-begins n)
   where
-    go : Begins n (decimal n) → scanFrom p (decimal n ++ r) ≡ tokenOf integerToken p (p + length (decimal n))
+    go : Begins n (decimal n) → scanFrom p (decimal n ++ r) ≡ tokenOf integerToken p (p .offset + length (decimal n))
     go b =
         let all-digits : digit (b .first) && each digit (b .rest) ≡ true = rw (b .is) at (decimal-digits n) in
         let of-digits : class (b .first) ≡ digitClass =

@@ -11,6 +11,7 @@ use lib.Dec.{leb, eqb}
 use lib.ListN.{length, length-append}
 use lib.Seq.{drop-append-seam, drop-append-add, take-at}
 use borrow.Author.Tests.{leb-true, eqb-true, not-true}
+use Rattle.definitions.specs.declared.Place.{Place}
 use Rattle.definitions.specs.Basics.{between, each, all, find, part}
 use Rattle.definitions.specs.Classes.{class, classes}
 use Rattle.definitions.specs.Integers.{front, octalDigit, digitValue, worth}
@@ -143,7 +144,7 @@ pub quoted-length : (bs : List ℕ) → length (quoted bs) ≡ length (quoteByte
 unfolding quoted
 quoted-length bs = omega (arith, length-append (quoteBytes bs) (34 ∷ []))
 
-pub scan-quoted : (p : ℕ) (bs r : List ℕ) → AreBytes bs → scanFrom p (quoted bs ++ r) ≡ tokenOf stringToken p (p + length (quoted bs))
+pub scan-quoted : (p : Place) (bs r : List ℕ) → AreBytes bs → scanFrom p (quoted bs ++ r) ≡ tokenOf stringToken p (p .offset + length (quoted bs))
 unfolding scanFrom quoted class classes
 scan-quoted p bs r h =
     rw (append-assoc (quoteBytes bs) (34 ∷ []) r, inside-quoteBytes bs r h)

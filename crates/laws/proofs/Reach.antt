@@ -13,7 +13,7 @@ use borrow.Author.Tests.{eqb-true, leb-true, eq-eqb, ltb-true, ltb-false}
 use Rattle.definitions.specs.declared.Token.{Token}
 use Rattle.definitions.specs.declared.Place.{Place}
 use Rattle.definitions.specs.Basics.{if_then_else_, between, all}
-use Rattle.definitions.specs.Refusals.{place}
+use Rattle.definitions.specs.Places.{placeOf}
 use Rattle.definitions.specs.Image.{digit}
 use Rattle.definitions.specs.Classes.{class, classes, isSymbol, goesOn, symbolClass, digitClass, letterClass, quoteClass, spaceClass, newlineClass, commentClass}
 use Rattle.definitions.specs.Integers.{front, octalDigit, hexDigit, hexAhead, integerLength, runsOn}
@@ -141,13 +141,13 @@ reaches-bad {p = p₁} r = record {
 }
 
 -- from the place p of the text s, before the byte b and the bytes bs
-module _ (s : List ℕ) (at p : ℕ) (lo : at ≤ p) (b : ℕ) (bs : List ℕ) (hi : p + suc (length bs) ≡ length s) where
-  bad-here : Reaches s at (bad (place p))
+module _ (s : List ℕ) (at : ℕ) (p : Place) (lo : at ≤ p .offset) (b : ℕ) (bs : List ℕ) (hi : p .offset + suc (length bs) ≡ length s) where
+  bad-here : Reaches s at (bad p)
   bad-here = reaches-bad (record { from = lo; within = omega arith })
 
   -- a token of so many bytes
   token-here : (kind size : ℕ) → 1 ≤ size → size ≤ suc (length bs) → (kind ≡ endOfText → ⊥) → (kind ≡ stringToken → 2 ≤ size)
-      → (kind ≤ stringToken) ⊎ (isSymbol kind ≡ true) → kind ≤ 125 → Reaches s at (tokenOf kind p (p + size))
+      → (kind ≤ stringToken) ⊎ (isSymbol kind ≡ true) → kind ≤ 125 → Reaches s at (tokenOf kind p (p .offset + size))
   token-here kind size h i k₀ k₃ k c =
       reaches-token
       (record {
@@ -161,9 +161,9 @@ module _ (s : List ℕ) (at p : ℕ) (lo : at ≤ p) (b : ℕ) (bs : List ℕ) (
         small = c;
       })
 
-  name-here : Reaches s at (tokenOf nameToken p (p + 1 + front goesOn bs))
+  name-here : Reaches s at (tokenOf nameToken p (p .offset + 1 + front goesOn bs))
   name-here =
-      let e : p + 1 + front goesOn bs ≡ p + (1 + front goesOn bs) = omega arith in
+      let e : p .offset + 1 + front goesOn bs ≡ p .offset + (1 + front goesOn bs) = omega arith in
       rw e
       (token-here nameToken (1 + front goesOn bs) (omega arith) (omega (arith, front-le goesOn bs))
       (λ x. omega arith) (λ x. absurd (omega arith)) (inl (omega arith)) (omega arith))
@@ -179,12 +179,12 @@ module _ (s : List ℕ) (at p : ℕ) (lo : at ≤ p) (b : ℕ) (bs : List ℕ) (
   string-here : (o : Option ℕ) → ((n : ℕ) → o ≡ some n → n < length bs) → Reaches s at (stringScan p o)
   string-here none h = bad-here
   string-here (some n) h =
-      let e : p + n + 2 ≡ p + (n + 2) = omega arith in
+      let e : p .offset + n + 2 ≡ p .offset + (n + 2) = omega arith in
       rw e
       (token-here stringToken (n + 2) (omega arith) (omega (arith, h n refl))
       (λ x. omega arith) (λ x. omega arith) (inl (omega arith)) (omega arith))
 
-  symbol-here : class b ≡ symbolClass → Reaches s at (tokenOf b p (p + 1))
+  symbol-here : class b ≡ symbolClass → Reaches s at (tokenOf b p (p .offset + 1))
   symbol-here e =
       let r = symbol-range b e in
       token-here b 1 (omega arith) (omega arith)
@@ -198,7 +198,7 @@ module _ (s : List ℕ) (at p : ℕ) (lo : at ≤ p) (b : ℕ) (bs : List ℕ) (
       by-test (Reaches s at) (eqb (class b) quoteClass) _ _ (λ _. string-here (inside b false bs) (inside-lt b false bs)) (λ _.
       by-test (Reaches s at) (eqb (class b) symbolClass) _ _ (λ e. symbol-here (eqb-true (class b) symbolClass e)) (λ _. bad-here))))
 
-scanFrom-reaches : (s : List ℕ) (at p : ℕ) → at ≤ p → (bs : List ℕ) → p + length bs ≡ length s → Reaches s at (scanFrom p bs)
+scanFrom-reaches : (s : List ℕ) (at : ℕ) (p : Place) → at ≤ p .offset → (bs : List ℕ) → p .offset + length bs ≡ length s → Reaches s at (scanFrom p bs)
 unfolding scanFrom
 scanFrom-reaches s at p lo [] hi =
     reaches-token
@@ -217,7 +217,7 @@ scanFrom-reaches s at p lo (b ∷ bs) hi = cons-here s at p lo b bs hi
 scan-reaches : (s : List ℕ) (at : ℕ) → at ≤ length s → Reaches s at (scan s at)
 unfolding scan
 scan-reaches s at h =
-    scanFrom-reaches s at (skip s at) (skip-ge s at) (drop (skip s at) s)
+    scanFrom-reaches s at (placeOf s (skip s at)) (skip-ge s at) (drop (skip s at) s)
     (omega (arith, skip-le s at h, length-drop (skip s at) s))
 
 pub reach : (s : List ℕ) (at : ℕ) (t : Token) (n : ℕ) → at ≤ length s → scan s at ≡ token t n → Reach s at t n

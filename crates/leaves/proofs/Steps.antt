@@ -25,6 +25,7 @@ use Rattle.definitions.specs.Tokens.{Scan, token, bad, tokenOf, gap, skip, scan
 use Rattle.definitions.specs.Strings.{decode}
 use Rattle.definitions.specs.Loop.{Out, done, refused}
 use Rattle.definitions.specs.Reading.{moved, numberLeaf, runLeaf, integerTok, unsigned, negated, signedValue, trueName, falseName, boolValue, enumValue, stringValue, scalar, afterName, default}
+use Rattle.lexer.specs.declared.tokens.Line.{Line}
 use Rattle.lexer.specs.declared.tokens.Cursor.{Cursor}
 use Rattle.lexer.specs.declared.tokens.Step.{Step}
 use Rattle.lexer.specs.declared.tokens.Step.the-variants as step
@@ -34,27 +35,35 @@ use Rattle.records.specs.declared.Found.the-variants as found
 use Rattle.records.specs.Known.{foundOf}
 use Rattle.leaves.specs.declared.Answer.{Answer}
 use Rattle.leaves.specs.declared.Answer.the-variants as answer
-use Rattle.lexer.specs.Steps.{stepOf}
+use Rattle.lexer.specs.Steps.{lineAt, cursorAt, Located, stepOf}
 use Rattle.integers.specs.Values.{integerOf}
 use Rattle.strings.specs.Values.{decodedOf}
 use Rattle.laws.proofs.Lists.{and-parts}
 use Rattle.laws.proofs.Reach.{reach}
 use Rattle.laws.proofs.Decoding.{decode-length}
 use Rattle.laws.proofs.Goes.{part-le}
-use Rattle.leaves.specs.Answers.{badOf, Reached, Fair, signedWidth, unsignedWidth}
+use Rattle.leaves.specs.Answers.{badOf, Reached, OnLine, Fair, signedWidth, unsignedWidth}
 
 -- ---- what an answer of a leaf says of the definition
 
-pub scanned : (st : Step) (sc : Scan) (t : Token) (c : Cursor) → st ≡ stepOf sc → st ≡ step.Token t c → sc ≡ token t (c .at)
-scanned st (token t₁ n) t c e g =
+pub scanned : (s : List ℕ) (st : Step) (sc : Scan) (t : Token) (c : Cursor) → st ≡ stepOf s sc → st ≡ step.Token t c → sc ≡ token t (c .at)
+scanned s st (token t₁ n) t c e g =
     let i : t ≡ t₁ = cc in
-    let j : c ≡ record { at = n } = cc in
+    let j : c ≡ cursorAt s n = cc in
     rw (i, j) refl
-scanned st (bad p) t c e g = let z : _≡_ {A = ℕ} 0 1 = cc in absurd (omega arith)
+scanned s st (bad p) t c e g = let z : _≡_ {A = ℕ} 0 1 = cc in absurd (omega arith)
 
-pub scanned-bad : (st : Step) (sc : Scan) (p : Place) → st ≡ stepOf sc → st ≡ step.Bad p → sc ≡ bad p
-scanned-bad st (token t n) p e g = let z : _≡_ {A = ℕ} 0 1 = cc in absurd (omega arith)
-scanned-bad st (bad p₁) p e g = let i : p ≡ p₁ = cc in rw i refl
+-- the cursor behind a token is on its line
+pub scanned-line : (s : List ℕ) (at : ℕ) (st : Step) (t : Token) (c : Cursor) → st ≡ stepOf s (scan s at) → st ≡ step.Token t c → OnLine s c
+scanned-line s at st t c e g = go (scan s at) e
+  where
+    go : (r : Scan) → st ≡ stepOf s r → OnLine s c
+    go (token t₁ n) e = let j : c ≡ cursorAt s n = cc in rw j refl
+    go (bad p) e = let z : _≡_ {A = ℕ} 0 1 = cc in absurd (omega arith)
+
+pub scanned-bad : (s : List ℕ) (st : Step) (sc : Scan) (p : Place) → st ≡ stepOf s sc → st ≡ step.Bad p → sc ≡ bad p
+scanned-bad s st (token t n) p e g = let z : _≡_ {A = ℕ} 0 1 = cc in absurd (omega arith)
+scanned-bad s st (bad p₁) p e g = let i : p ≡ p₁ = cc in rw i refl
 
 pub bad-is : (st : Step) (p : Place) (r : Answer) → st ≡ step.Bad p → r ≡ badOf st → r ≡ answer.No badToken p
 bad-is st p r g e = e ∙ ap badOf g
@@ -212,7 +221,7 @@ module _ (s : List ℕ) (w : Want) (q : Spot) where
       string-fine i = simp (e, eq-eqb _ _ h, k, sym i)
 
 -- what a string stands for has room among the bytes of the text
-pub string-room : (s : List ℕ) (q : Spot) (t : Token) (n : ℕ) (bs : List ℕ) → Fair s q → scan s (q .at) ≡ token t n → t .kind ≡ stringToken
+pub string-room : {l : Line} (s : List ℕ) (q : Spot) (t : Token) (n : ℕ) (bs : List ℕ) → Fair s q l → scan s (q .at) ≡ token t n → t .kind ≡ stringToken
     → decode (part s (t .start .offset + 1) (n - 1)) ≡ some bs → q .byte + length bs ≤ mostText
 string-room s q t n bs f e h k =
     let z = reach s (q .at) t n (f .inside) e in
@@ -269,10 +278,18 @@ module _ (image s : List ℕ) (w : Want) (q : Spot) where
   colon-on t n e h = rw (e, eq-eqb _ _ h)
 
 -- a fair spot moved to the end of a token
-pub moved-fair : (s : List ℕ) (q : Spot) (t : Token) (n : ℕ) → Fair s q → scan s (q .at) ≡ token t n → Fair s (moved n q)
-moved-fair s q t n f e =
+pub moved-fair : {l m : Line} (s : List ℕ) (q : Spot) (t : Token) (n : ℕ) → Fair s q l → scan s (q .at) ≡ token t n → m ≡ lineAt s n → Fair s (moved n q) m
+moved-fair s q t n f e g =
     let z = reach s (q .at) t n (f .inside) e in
-    record { inside = z .within; nodes = omega (arith, z .from, z .start, f .nodes); bytes = omega (arith, z .from, z .start, f .bytes); short = f .short }
+    record { inside = z .within; nodes = omega (arith, z .from, z .start, f .nodes); bytes = omega (arith, z .from, z .start, f .bytes); short = f .short; line = g }
+
+-- what the scanner presumes of it
+pub fair-located : {l : Line} (s : List ℕ) (q : Spot) → Fair s q l → Located s (record { at = q .at; line = l })
+fair-located s q f = record { inside = f .inside; short = f .short; line = f .line }
+
+-- and of the cursor behind a token
+pub after-located : {l : Line} (s : List ℕ) (q : Spot) (t : Token) (c : Cursor) → Fair s q l → scan s (q .at) ≡ token t (c .at) → OnLine s c → Located s c
+after-located s q t c f e g = record { inside = reach s (q .at) t (c .at) (f .inside) e .within; short = f .short; line = g }
 
 -- ---- what an entry lacks
 

@@ -18,16 +18,20 @@ use Rattle.definitions.specs.Classes.{classes}
 use Rattle.definitions.specs.Strings.{escapes}
 use Rattle.definitions.specs.Reading.{opens, closerOf, noted}
 use Rattle.definitions.specs.Loop.{Out, done, refused, Stand}
+use Rattle.lexer.specs.declared.tokens.Line.{Line}
+use Rattle.lexer.specs.declared.tokens.Cursor.{Cursor}
 use Rattle.lexer.specs.declared.tokens.Step.{Step}
 use Rattle.lexer.specs.declared.tokens.Step.the-variants as step
+use Rattle.lexer.specs.Steps.{lineAt}
 use Rattle.leaves.specs.declared.Answer.{Answer}
 use Rattle.leaves.specs.declared.Answer.the-variants as answer
 
 -- ---- answers, with document 01's numbers
 
-abbrev pub answerOf : Out → Answer
-answerOf (done q w b) = answer.Done q
-answerOf (refused why at) = answer.No why at
+-- the spot after, with the line that it stands on, as offsets have lines
+abbrev pub answerOf : (ℕ → Line) → Out → Answer
+answerOf on (done q w b) = answer.Done q (on (q .at))
+answerOf on (refused why at) = answer.No why at
 
 abbrev pub badOf : Step → Answer
 badOf (step.Bad p) = answer.No badToken p
@@ -54,12 +58,17 @@ Ready table = table ≡ classes
 abbrev pub Lent : List ℕ → List ℕ → Type 0
 Lent table escape = Ready table × (escape ≡ escapes)
 
--- a spot in a text of lawful length, with no more nodes and bytes than places passed
-pub record Fair (s : List ℕ) (q : Spot) : Type 0 where
+-- a cursor is on the line that it stands on
+abbrev pub OnLine : List ℕ → Cursor → Type 0
+OnLine s c = c .line ≡ lineAt s (c .at)
+
+-- a spot in a text of lawful length and its line, with no more nodes and bytes than places passed
+pub record Fair (s : List ℕ) (q : Spot) (l : Line) : Type 0 where
   pub inside : q .at ≤ length s
   pub nodes : q .node ≤ q .at + 1
   pub bytes : q .byte ≤ q .at
   pub short : length s ≤ mostText
+  pub line : l ≡ lineAt s (q .at)
 
 -- a node's numbers fit its words
 pub record Holds (w : Want) (q : Spot) : Type 0 where
@@ -95,13 +104,17 @@ abbrev pub Wrote : (e x f y : List ℕ) → Spot → Out → Type 0
 Wrote e x f y q (done p w b) = 5 * p .node ≤ length e → p .byte ≤ length f → (x ≡ sets e (5 * q .node) w) × (y ≡ sets f (q .byte) b)
 Wrote e x f y q (refused why at) = Unit {0}
 
-pub record Answers (e x f y : List ℕ) (q : Spot) (o : Out) (r : Answer) : Type 0 where
-  pub answer : r ≡ answerOf o
+pub record Answers (on : ℕ → Line) (e x f y : List ℕ) (q : Spot) (o : Out) (r : Answer) : Type 0 where
+  pub answer : r ≡ answerOf on o
   pub wrote : Wrote e x f y q o
 
 -- nothing goes into the pool, whatever it holds
-abbrev pub AnswersHere : (e x : List ℕ) → Spot → Out → Answer → Type 0
-AnswersHere e x q o r = (f : List ℕ) → Answers e x f f q o r
+abbrev pub AnswersHere : (ℕ → Line) → (e x : List ℕ) → Spot → Out → Answer → Type 0
+AnswersHere on e x q o r = (f : List ℕ) → Answers on e x f f q o r
+
+-- the same, however offsets have lines, if the cursor at the end is on its own
+abbrev pub AnswersUpTo : Cursor → (e x : List ℕ) → Spot → Out → Answer → Type 0
+AnswersUpTo c e x q o r = (on : ℕ → Line) → c .line ≡ on (c .at) → AnswersHere on e x q o r
 
 abbrev pub standing : Spot → Bool → Bool → Stand
 standing q key value = record { spot = q; key = key; value = value }

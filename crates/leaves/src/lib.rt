@@ -5,6 +5,7 @@ mod store;
 use definitions::Place;
 use definitions::Spot;
 use definitions::refusals;
+use lexer::Line;
 use lexer::Step;
 pub use ranges::is_broken;
 pub use ranges::most_signed;
@@ -16,9 +17,9 @@ pub use store::put_number;
 ghost use mathlib.Core.Path.{_≡_};
 ghost use Rattle.leaves.specs.Answers.{badOf};
 
-// What reading gives: the spot after, or the first fault with its place.
+// What reading gives: the spot after and the line that it stands on, or the first fault with its place.
 pub enum Answer {
-    Done(Spot),
+    Done(Spot, Line),
     No(u8, Place),
 }
 

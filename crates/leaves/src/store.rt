@@ -4,12 +4,13 @@ use definitions::Node;
 use definitions::Spot;
 use definitions::Want;
 use definitions::limits::NODE_WORDS;
+use lexer::Cursor;
 ghost use mathlib.Core.Path.{_≡_};
 ghost use Prim.Native.Nat.{_≤_, _<_, _+_};
 ghost use Rattle.definitions.specs.Refusals.{mostText};
 ghost use Rattle.definitions.specs.Nodes.{words};
 ghost use Rattle.definitions.specs.Reading.{numberLeaf};
-ghost use Rattle.leaves.specs.Answers.{putAt, Holds, AnswersHere};
+ghost use Rattle.leaves.specs.Answers.{putAt, Holds, AnswersUpTo};
 
 // A node's five words, where the table has room for them.
 pub fn put(nodes: &mut [u32], k: usize, n: Node)
@@ -25,12 +26,13 @@ pub fn put(nodes: &mut [u32], k: usize, n: Node)
     }
 }
 
-// A node with none below it: a number.
-pub fn put_number(w: Want, q: Spot, at: usize, v: u64, nodes: &mut [u32]) -> Answer
+// A node with none below it: a number, up to a cursor.
+pub fn put_number(w: Want, q: Spot, to: Cursor, v: u64, nodes: &mut [u32]) -> Answer
     requires { ⌜ Holds w q ⌝ }
-    ensures { λ r. ⌜ AnswersHere (now (nodes .entry)) (now (nodes .exit)) q (numberLeaf w q at v) r ⌝ }
+    ensures { λ r. ⌜ AnswersUpTo to (now (nodes .entry)) (now (nodes .exit)) q (numberLeaf w q (to .at) v) r ⌝ }
 {
     let k = q.node;
+    let line = to.line;
     put(
         nodes,
         k,
@@ -42,11 +44,14 @@ pub fn put_number(w: Want, q: Spot, at: usize, v: u64, nodes: &mut [u32]) -> Ans
             end: (k + 1) as u32,
         },
     );
-    Answer::Done(Spot {
-        at: at,
-        node: k + 1,
-        byte: q.byte,
-    })
+    Answer::Done(
+        Spot {
+            at: to.at,
+            node: k + 1,
+            byte: q.byte,
+        },
+        line,
+    )
 }
 
 // A node with others below it, up to the node `end`: a message or an entry.

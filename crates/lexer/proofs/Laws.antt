@@ -8,49 +8,50 @@ use native.Mathlib.Omega.{arith}
 use native.Mathlib.Numerals.{add-one}
 use native.Mathlib.Nat.{not-suc-le-zero}
 use mathlib.Core.Option.{Option, none, some}
-use lib.Dec.{ltb, eqb}
+use lib.Dec.{ltb, leb, eqb}
 use lib.ListN.{length, getD, drop, drop-of-length-le}
 use lib.Seq.{drop-cons, drop-drop}
-use borrow.Author.Tests.{eq-eqb, ne-eqb, eqb-true, eqb-false, lt-ltb, ltb-true}
-use Rattle.definitions.specs.Basics.{if_then_else_}
-use Rattle.definitions.specs.Refusals.{place}
+use borrow.Author.Tests.{eq-eqb, ne-eqb, eqb-true, eqb-false, lt-ltb, ltb-true, leb-true}
+use Rattle.definitions.specs.Basics.{if_then_else_, between}
+use Rattle.definitions.specs.declared.Place.{Place}
+use Rattle.definitions.specs.Places.{newline, placeOf}
 use Rattle.definitions.specs.Image.{digit}
 use Rattle.definitions.specs.Classes.{classes, class, goesOn, quoteClass, newlineClass, spaceClass, commentClass, symbolClass, digitClass, letterClass}
 use Rattle.definitions.specs.Integers.{front, octalDigit, hexDigit, hexAhead, integerLength, runsOn}
 use Rattle.definitions.specs.Tokens.{bad, colon, endOfText, gap, inside, integerScan, integerToken, nameToken, oneMore, scan, scanFrom, skip, stringScan, stringToken, tokenOf}
-use Rattle.laws.proofs.Lists.{and-parts}
+use Rattle.laws.proofs.Lists.{and-parts, true-false}
+use Rattle.laws.proofs.ClassTable.{class-most}
 use Rattle.lexer.specs.declared.tokens.Closing.{Closing}
 use Rattle.lexer.specs.declared.tokens.Closing.the-variants as closing
-use Rattle.lexer.specs.Steps.{line, breaks, closingOf}
+use Rattle.lexer.specs.Steps.{comment, breaks, closingOf}
 
 -- ---- a comment's rest, from a place on
 
-pub line-on : (s : List ℕ) (i : ℕ) → i < length s → (getD s i 0 ≡ 10 → ⊥) → i + 1 + line (drop (i + 1) s) ≡ i + line (drop i s)
-unfolding line
-line-on s i h e = rw (drop-cons s i 0) (simp (ne-eqb _ _ e, add-one) (omega arith))
+pub comment-on : (s : List ℕ) (i : ℕ) → i < length s → (getD s i 0 ≡ newline → ⊥) → i + 1 + comment (drop (i + 1) s) ≡ i + comment (drop i s)
+unfolding comment
+comment-on s i h e = rw (drop-cons s i 0) (simp (ne-eqb _ _ e, add-one) (omega arith))
 
-pub line-newline : (s : List ℕ) (i : ℕ) → i < length s → getD s i 0 ≡ 10 → i + 1 ≡ i + line (drop i s)
-unfolding line
-line-newline s i h e = rw (drop-cons s i 0) (simp (eq-eqb _ _ e))
+pub comment-newline : (s : List ℕ) (i : ℕ) → i < length s → getD s i 0 ≡ newline → i ≡ i + comment (drop i s)
+unfolding comment
+comment-newline s i h e = rw (drop-cons s i 0) (simp (eq-eqb _ _ e) (omega arith))
 
-pub line-end : (s : List ℕ) (i : ℕ) → length s ≤ i → i ≡ i + line (drop i s)
-unfolding line
-line-end s i h = rw (drop-of-length-le s h) (omega arith)
+pub comment-end : (s : List ℕ) (i : ℕ) → length s ≤ i → i ≡ i + comment (drop i s)
+unfolding comment
+comment-end s i h = rw (drop-of-length-le s h) (omega arith)
 
--- a comment is its rest of the line and the separators after it
-gap-line : (l : List ℕ) → gap true l ≡ line l + gap false (drop (line l) l)
-unfolding gap line
-gap-line [] = refl
-gap-line (b ∷ bs) = go (eqb b 10) (gap-line bs)
+-- a comment is its rest of the line and the separators after it, the newline first
+gap-comment : (l : List ℕ) → gap true l ≡ comment l + gap false (drop (comment l) l)
+unfolding gap comment class classes
+gap-comment [] = refl
+gap-comment (b ∷ bs) = go (eqb b newline) refl (gap-comment bs)
   where
-    go : (t : Bool) → gap true bs ≡ line bs + gap false (drop (line bs) bs)
-        → suc (gap (not t) bs)
-        ≡ (if t then (λ _. 1) else λ _. suc (line bs)) + gap false (drop (if t then (λ _. 1) else λ _. suc (line bs)) (b ∷ bs))
-    go true h = omega arith
-    go false h = omega arith
+    go : (t : Bool) → eqb b newline ≡ t → gap true bs ≡ comment bs + gap false (drop (comment bs) bs)
+        → gap true (b ∷ bs) ≡ comment (b ∷ bs) + gap false (drop (comment (b ∷ bs)) (b ∷ bs))
+    go true e h = rw (eqb-true b newline e) (omega arith)
+    go false e h = rw (e, gap, comment) (omega arith)
 
-gap-rest : (s : List ℕ) (i : ℕ) → gap true (drop i s) ≡ line (drop i s) + gap false (drop (i + line (drop i s)) s)
-gap-rest s i = gap-line (drop i s) ∙ ap (λ (l : List ℕ). line (drop i s) + gap false l) (drop-drop (line (drop i s)) i s)
+gap-rest : (s : List ℕ) (i : ℕ) → gap true (drop i s) ≡ comment (drop i s) + gap false (drop (i + comment (drop i s)) s)
+gap-rest s i = gap-comment (drop i s) ∙ ap (λ (l : List ℕ). comment (drop i s) + gap false l) (drop-drop (comment (drop i s)) i s)
 
 -- ---- what separates, from a place on
 
@@ -64,15 +65,18 @@ module _ (s : List ℕ) (i : ℕ) (h : i < length s) {c : ℕ} (e : c ≡ class 
   unfolding skip gap
   skip-stop f g k = rw (drop-cons s i 0) (simp (← e, ne-eqb _ _ f, ne-eqb _ _ g, ne-eqb _ _ k) (omega arith))
 
-  pub skip-below : c < newlineClass → i ≡ skip s i
-  skip-below l = skip-stop (λ f. omega arith) (λ g. omega arith) (λ k. omega arith)
+  pub skip-stays : between newlineClass commentClass c ≡ false → i ≡ skip s i
+  skip-stays l = skip-stop (λ f. refuted (rw f refl)) (λ g. refuted (rw g refl)) (λ k. refuted (rw k refl))
+    where
+      refuted : between newlineClass commentClass c ≡ true → ⊥
+      refuted t = true-false (between newlineClass commentClass c) t l
 
-  pub skip-above : commentClass < c → i ≡ skip s i
-  skip-above l = skip-stop (λ f. omega arith) (λ g. omega arith) (λ k. omega arith)
-
-  pub skip-comment : c ≡ commentClass → skip s (i + 1 + line (drop (i + 1) s)) ≡ skip s i
+  pub skip-comment : c ≡ commentClass → skip s (i + 1 + comment (drop (i + 1) s)) ≡ skip s i
   unfolding skip gap
   skip-comment k = rw (drop-cons s i 0) (simp (← e, k, add-one) (omega (arith, gap-rest s (suc i))))
+
+  bounds : between newlineClass commentClass c ≡ true → (newlineClass ≤ c) × (c ≤ commentClass)
+  bounds t = let z = and-parts (leb newlineClass c) (leb c commentClass) t in (leb-true newlineClass c (z .0), leb-true c commentClass (z .1))
 
   blank : newlineClass ≤ c → c ≤ commentClass → (c ≡ commentClass → ⊥) → (eqb c spaceClass || eqb c newlineClass) ≡ true
   blank l u k = go (eqb c spaceClass) refl
@@ -84,9 +88,13 @@ module _ (s : List ℕ) (i : ℕ) (h : i < length s) {c : ℕ} (e : c ≡ class 
       go true p = refl
       go false p = eq-eqb c newlineClass (four (eqb-false c spaceClass p))
 
-  pub skip-blank : newlineClass ≤ c → c ≤ commentClass → (c ≡ commentClass → ⊥) → skip s (i + 1) ≡ skip s i
+  pub skip-blank : between newlineClass commentClass c ≡ true → (c ≡ commentClass → ⊥) → skip s (i + 1) ≡ skip s i
   unfolding skip gap
-  skip-blank l u k = rw (drop-cons s i 0) (simp (← e, blank l u k, add-one) (omega arith))
+  skip-blank t k = rw (drop-cons s i 0) (simp (← e, blank (bounds t .0) (bounds t .1) k, add-one) (omega arith))
+
+  -- what separates, and is neither a space nor a newline, begins a comment
+  pub comment-left : between newlineClass commentClass c ≡ true → (c ≡ spaceClass → ⊥) → (c ≡ newlineClass → ⊥) → c ≡ commentClass
+  comment-left t f g = omega (arith, bounds t .0, bounds t .1)
 
 -- ---- integers
 
@@ -159,15 +167,15 @@ rest-after b s i (suc n) h =
     let e : i + 1 + n ≡ i + suc n = omega arith in
     drop-drop n (i + 1) s ∙ ap (λ (k : ℕ). drop k s) e
 
-module _ (s : List ℕ) (i b : ℕ) {e : ℕ} (p : e ≡ i + integerLength b (drop (i + 1) s)) where
-  rest : drop (integerLength b (drop (i + 1) s)) (b ∷ drop (i + 1) s) ≡ drop e s
-  rest = rest-after b s i _ (not-empty b (drop (i + 1) s)) ∙ ap (λ (k : ℕ). drop k s) (sym p)
+module _ (s : List ℕ) (i : Place) (b : ℕ) {e : ℕ} (p : e ≡ i .offset + integerLength b (drop (i .offset + 1) s)) where
+  rest : drop (integerLength b (drop (i .offset + 1) s)) (b ∷ drop (i .offset + 1) s) ≡ drop e s
+  rest = rest-after b s (i .offset) _ (not-empty b (drop (i .offset + 1) s)) ∙ ap (λ (k : ℕ). drop k s) (sym p)
 
-  pub integer-bad : runsOn (drop e s) ≡ true → bad (place i) ≡ integerScan i b (drop (i + 1) s)
+  pub integer-bad : runsOn (drop e s) ≡ true → bad i ≡ integerScan i b (drop (i .offset + 1) s)
   unfolding integerScan
   integer-bad r = simp (rest, r)
 
-  pub integer-good : runsOn (drop e s) ≡ false → tokenOf integerToken i e ≡ integerScan i b (drop (i + 1) s)
+  pub integer-good : runsOn (drop e s) ≡ false → tokenOf integerToken i e ≡ integerScan i b (drop (i .offset + 1) s)
   unfolding integerScan
   integer-good r = simp (rest, ← p, r)
 
@@ -242,51 +250,55 @@ module _ (quote : ℕ) (q : class quote ≡ quoteClass) (s : List ℕ) (i : ℕ)
   pub string-taken : breaks (getD s i 0) ≡ false → closeAt quote false s (i + 1) ≡ closeAt quote true s i
   string-taken r = close-on quote true s i h r refl
 
-scan-bad : (i : ℕ) (o : Option ℕ) → closingOf (i + 1) o ≡ closing.Missing → bad (place i) ≡ stringScan i o
+scan-bad : (i : Place) (o : Option ℕ) → closingOf (i .offset + 1) o ≡ closing.Missing → bad i ≡ stringScan i o
 scan-bad i none e = refl
 scan-bad i (some n) e = let z : _≡_ {A = ℕ} 0 1 = cc in absurd (omega arith)
 
-scan-good : (i n : ℕ) (o : Option ℕ) → closingOf (i + 1) o ≡ closing.Before n → tokenOf stringToken i n ≡ stringScan i o
+scan-good : (i : Place) (n : ℕ) (o : Option ℕ) → closingOf (i .offset + 1) o ≡ closing.Before n → tokenOf stringToken i n ≡ stringScan i o
 scan-good i n none e = let z : _≡_ {A = ℕ} 0 1 = cc in absurd (omega arith)
-scan-good i n (some m) e = let z : i + 1 + m + 1 ≡ n = cc in ap (tokenOf stringToken i) (omega arith)
+scan-good i n (some m) e = let z : i .offset + 1 + m + 1 ≡ n = cc in ap (tokenOf stringToken i) (omega arith)
 
-module _ (quote : ℕ) (s : List ℕ) (i : ℕ) where
-  pub string-bad : closeAt quote false s (i + 1) ≡ closing.Missing → bad (place i) ≡ stringScan i (inside quote false (drop (i + 1) s))
-  string-bad e = scan-bad i (inside quote false (drop (i + 1) s)) e
+module _ (quote : ℕ) (s : List ℕ) (i : Place) where
+  pub string-bad : closeAt quote false s (i .offset + 1) ≡ closing.Missing → bad i ≡ stringScan i (inside quote false (drop (i .offset + 1) s))
+  string-bad e = scan-bad i (inside quote false (drop (i .offset + 1) s)) e
 
-  pub string-good : (n : ℕ) → closeAt quote false s (i + 1) ≡ closing.Before n
-      → tokenOf stringToken i n ≡ stringScan i (inside quote false (drop (i + 1) s))
-  string-good n e = scan-good i n (inside quote false (drop (i + 1) s)) e
+  pub string-good : (n : ℕ) → closeAt quote false s (i .offset + 1) ≡ closing.Before n
+      → tokenOf stringToken i n ≡ stringScan i (inside quote false (drop (i .offset + 1) s))
+  string-good n e = scan-good i n (inside quote false (drop (i .offset + 1) s)) e
 
 -- ---- the token that begins at a place
 
-pub from-end : (s : List ℕ) (i : ℕ) → length s ≤ i → tokenOf endOfText i i ≡ scanFrom i (drop i s)
+pub from-end : (s : List ℕ) (p : Place) → length s ≤ p .offset → tokenOf endOfText p (p .offset) ≡ scanFrom p (drop (p .offset) s)
 unfolding scanFrom
-from-end s i h = rw (drop-of-length-le s h)
+from-end s p h = rw (drop-of-length-le s h)
 
-module _ (s : List ℕ) (i : ℕ) (h : i < length s) {c : ℕ} (e : c ≡ class (getD s i 0)) where
-  pub from-letter : c ≡ letterClass → tokenOf nameToken i (i + 1 + front goesOn (drop (i + 1) s)) ≡ scanFrom i (drop i s)
+module _ (s : List ℕ) (p : Place) (h : p .offset < length s) {c : ℕ} (e : c ≡ class (getD s (p .offset) 0)) where
+  pub from-letter : digitClass < c → tokenOf nameToken p (p .offset + 1 + front goesOn (drop (p .offset + 1) s)) ≡ scanFrom p (drop (p .offset) s)
   unfolding scanFrom
-  from-letter k = rw (drop-cons s i 0) (simp (← e, k, add-one))
+  from-letter k =
+      let l : c ≡ letterClass = omega (arith, e, class-most (getD s (p .offset) 0)) in
+      rw (drop-cons s (p .offset) 0) (simp (← e, l, add-one))
 
-  pub from-digit : c ≡ digitClass → integerScan i (getD s i 0) (drop (i + 1) s) ≡ scanFrom i (drop i s)
+  pub from-digit : c ≡ digitClass → integerScan p (getD s (p .offset) 0) (drop (p .offset + 1) s) ≡ scanFrom p (drop (p .offset) s)
   unfolding scanFrom
-  from-digit k = rw (drop-cons s i 0) (simp (← e, k, add-one))
+  from-digit k = rw (drop-cons s (p .offset) 0) (simp (← e, k, add-one))
 
-  pub from-quote : c ≡ quoteClass → stringScan i (inside (getD s i 0) false (drop (i + 1) s)) ≡ scanFrom i (drop i s)
+  pub from-quote : c ≡ quoteClass → stringScan p (inside (getD s (p .offset) 0) false (drop (p .offset + 1) s)) ≡ scanFrom p (drop (p .offset) s)
   unfolding scanFrom
-  from-quote k = rw (drop-cons s i 0) (simp (← e, k, add-one))
+  from-quote k = rw (drop-cons s (p .offset) 0) (simp (← e, k, add-one))
 
-  pub from-symbol : c ≡ symbolClass → tokenOf (getD s i 0) i (i + 1) ≡ scanFrom i (drop i s)
+  pub from-symbol : c ≡ symbolClass → tokenOf (getD s (p .offset) 0) p (p .offset + 1) ≡ scanFrom p (drop (p .offset) s)
   unfolding scanFrom
-  from-symbol k = rw (drop-cons s i 0) (simp (← e, k, add-one))
+  from-symbol k = rw (drop-cons s (p .offset) 0) (simp (← e, k, add-one))
 
-  pub from-none : (c ≡ letterClass → ⊥) → (c ≡ digitClass → ⊥) → (c ≡ quoteClass → ⊥) → (c ≡ symbolClass → ⊥)
-      → bad (place i) ≡ scanFrom i (drop i s)
+  pub from-none : c ≤ symbolClass → (c ≡ quoteClass → ⊥) → (c ≡ symbolClass → ⊥) → bad p ≡ scanFrom p (drop (p .offset) s)
   unfolding scanFrom
-  from-none f g k l = rw (drop-cons s i 0) (simp (← e, ne-eqb _ _ f, ne-eqb _ _ g, ne-eqb _ _ k, ne-eqb _ _ l))
+  from-none f k l =
+      let g : c ≡ letterClass → ⊥ = λ z. omega arith in
+      let d : c ≡ digitClass → ⊥ = λ z. omega arith in
+      rw (drop-cons s (p .offset) 0) (simp (← e, ne-eqb _ _ g, ne-eqb _ _ d, ne-eqb _ _ k, ne-eqb _ _ l))
 
-pub scan-at : (s : List ℕ) (at i : ℕ) → i ≡ skip s at → scanFrom i (drop i s) ≡ scan s at
+pub scan-at : (s : List ℕ) (at i : ℕ) → i ≡ skip s at → scanFrom (placeOf s i) (drop i s) ≡ scan s at
 unfolding scan
 scan-at s at i e = rw e
 
@@ -298,7 +310,7 @@ colon-there s at r e h =
     let p = and-parts (ltb at (length s)) (eqb (getD s at 0) colon) (sym e ∙ h) in
     (ltb-true at (length s) (p .0), eqb-true (getD s at 0) colon (p .1))
 
-symbol-here : (s r : List ℕ) (at c : ℕ) → drop at s ≡ c ∷ r → class c ≡ symbolClass → scan s at ≡ tokenOf c at (at + 1)
+symbol-here : (s r : List ℕ) (at c : ℕ) → drop at s ≡ c ∷ r → class c ≡ symbolClass → scan s at ≡ tokenOf c (placeOf s at) (at + 1)
 unfolding scan skip gap scanFrom
 symbol-here s r at c d k =
     let g : gap false (drop at s) ≡ 0 = rw (d, k) refl in
@@ -306,6 +318,6 @@ symbol-here s r at c d k =
     rw (g, z, d, k) refl
 
 -- is the token that a scan finds
-pub colon-here : (s : List ℕ) (at : ℕ) → at < length s → getD s at 0 ≡ colon → scan s at ≡ tokenOf colon at (at + 1)
+pub colon-here : (s : List ℕ) (at : ℕ) → at < length s → getD s at 0 ≡ colon → scan s at ≡ tokenOf colon (placeOf s at) (at + 1)
 unfolding class classes
 colon-here s at h e = symbol-here s (drop (suc at) s) at colon (drop-cons s at 0 h ∙ ap (λ (b : ℕ). b ∷ drop (suc at) s) e) refl

@@ -2,8 +2,9 @@
 ghost use mathlib.Core.Path.{_≡_};
 ghost use Rattle.definitions.specs.Classes.{classes, class, classRule};
 
-// The classes rise so that one comparison tells what separates (4 to 6), what is plain inside a string (5 and up) and what goes
-// on a name (9 and up). Those with no name here: 0 the zero byte, 1 a byte over 127, 2 the backslash, 7 what no token begins with.
+// The classes rise so that one comparison tells what separates (4 to 6), what is plain inside a string (5 and up), what goes on a
+// name (9 and up) and what begins one (10). Those with no name here: 0 the zero byte, 1 a byte over 127, 2 the backslash, 7 what no
+// token begins with, 10 letters and `_`.
 
 // `"` and `'`
 pub const QUOTE: u8 = 3;
@@ -20,9 +21,6 @@ pub const COMMENT: u8 = 6;
 pub const SYMBOL: u8 = 8;
 
 pub const DIGIT: u8 = 9;
-
-// letters and `_`
-pub const LETTER: u8 = 10;
 
 // The class of each byte.
 pub const CLASSES: [u8; 256] = [

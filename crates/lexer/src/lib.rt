@@ -3,4 +3,5 @@ pub mod classes;
 pub mod tokens;
 
 pub use tokens::Cursor;
+pub use tokens::Line;
 pub use tokens::Step;

@@ -2,7 +2,6 @@
 // Each function takes the text whole and a place in it, which may lie past the end; the table of classes is lent down.
 use crate::classes::COMMENT;
 use crate::classes::DIGIT;
-use crate::classes::LETTER;
 use crate::classes::NEWLINE;
 use crate::classes::QUOTE;
 use crate::classes::SPACE;
@@ -15,19 +14,26 @@ use definitions::tokens;
 use integers::hex_digit;
 ghost use mathlib.Core.Bool.{false, _&&_};
 ghost use mathlib.Core.Path.{_≡_};
-ghost use Prim.Native.Nat.{_+_, _<_};
+ghost use Prim.Native.Nat.{_+_, _≤_, _<_};
 ghost use lib.Dec.{eqb, ltb};
 ghost use lib.ListN.{length, drop, getD};
 ghost use Rattle.definitions.specs.Basics.{between};
-ghost use Rattle.definitions.specs.Classes.{classes, class, goesOn, quoteClass};
+ghost use Rattle.definitions.specs.Classes.{classes, class, goesOn, quoteClass, newlineClass, commentClass};
 ghost use Rattle.definitions.specs.Integers.{front, hexDigit, integerLength, runsOn};
-ghost use Rattle.definitions.specs.Refusals.{place};
-ghost use Rattle.definitions.specs.Tokens.{bad, colon, inside, integerScan, scan, skip, stringScan, tokenOf};
-ghost use Rattle.lexer.specs.Steps.{stepOf, line, breaks, closingOf};
+ghost use Rattle.definitions.specs.Refusals.{mostText};
+ghost use Rattle.definitions.specs.Tokens.{colon, inside, integerScan, scan, scanFrom, stringScan, tokenOf};
+ghost use Rattle.lexer.specs.Steps.{Located, Met, placeAt, onLine, stepOf, comment, breaks, closingOf};
 
-// Where reading stands in the text.
+// The line that a place stands on: its number, counted from 1, and the offset of its first byte.
+pub struct Line {
+    pub number: u32,
+    pub began: u32,
+}
+
+// Where reading stands in the text, and on which line.
 pub struct Cursor {
     pub at: usize,
+    pub line: Line,
 }
 
 // A token and the place after it, or a bad token's first byte.
@@ -42,14 +48,14 @@ enum Closing {
     Missing,
 }
 
-// The rest of a comment: any bytes up to and with the newline, or the end.
+// The rest of a comment: any bytes up to the newline, or the end.
 fn comment_end(text: &[u8], at: usize) -> usize
-    ensures { λ r. ⌜ r ≡ at + line (drop at (now (text .entry))) ⌝ }
+    ensures { λ r. ⌜ r ≡ at + comment (drop at (now (text .entry))) ⌝ }
 {
     let mut i = at;
     while i < text.len() {
         if text[i] == 10 {
-            return i + 1;
+            return i;
         }
         i += 1;
     }
@@ -57,25 +63,13 @@ fn comment_end(text: &[u8], at: usize) -> usize
 }
 
 // What separates, the classes 4 to 6: space, tab, newline, return, vertical tab, form feed, and `#` with the rest of its line.
-fn skip(text: &[u8], at: usize, table: &[u8; 256]) -> usize
-    requires { ⌜ now table ≡ classes ⌝ }
-    ensures { λ r. ⌜ r ≡ skip (now (text .entry)) at ⌝ }
+fn separates(class: u8) -> bool
+    ensures { λ r. ⌜ r ≡ between newlineClass commentClass class ⌝ }
 {
-    let mut i = at;
-    while i < text.len() {
-        let class = class_of(text[i], table);
-        if class < NEWLINE {
-            return i;
-        }
-        if COMMENT < class {
-            return i;
-        }
-        i += 1;
-        if class == COMMENT {
-            i = comment_end(text, i);
-        }
+    if class < NEWLINE {
+        return false;
     }
-    i
+    class <= COMMENT
 }
 
 // The rest of a name, the classes 9 and up: letters, digits, `_`.
@@ -207,47 +201,45 @@ fn string_end(text: &[u8], at: usize, quote: u8, table: &[u8; 256]) -> Closing
     Closing::Missing
 }
 
-// A token from one place to another.
-fn token(kind: u8, start: usize, next: usize) -> Step
-    ensures { λ r. ⌜ r ≡ stepOf (tokenOf kind start next) ⌝ }
+// A token up to an offset, on the line that it began on.
+fn token(kind: u8, start: Place, next: usize, line: Line) -> Step
+    ensures { λ r. ⌜ r ≡ onLine line (tokenOf kind start next) ⌝ }
 {
     Step::Token(
         Token {
             kind: kind,
-            start: Place { offset: start },
+            start: start,
         },
-        Cursor { at: next },
+        Cursor {
+            at: next,
+            line: line,
+        },
     )
 }
 
-// A bad token, by its first byte.
-fn bad(start: usize) -> Step
-    ensures { λ r. ⌜ r ≡ stepOf (bad (place start)) ⌝ }
-{
-    Step::Bad(Place { offset: start })
-}
-
 // An integer that nothing runs on.
-fn integer(text: &[u8], at: usize, first: u8, table: &[u8; 256]) -> Step
-    requires { ⌜ (now table ≡ classes) × (at < length (now text)) ⌝ }
-    ensures { λ r. ⌜ r ≡ stepOf (integerScan at first (drop (at + 1) (now (text .entry)))) ⌝ }
+fn integer(text: &[u8], start: Place, line: Line, first: u8, table: &[u8; 256]) -> Step
+    requires { ⌜ (now table ≡ classes) × (start .offset < length (now text)) ⌝ }
+    ensures { λ r. ⌜ r ≡ onLine line (integerScan start first (drop (start .offset + 1) (now (text .entry)))) ⌝ }
 {
+    let at = start.offset;
     let end = integer_end(text, at, first);
     if runs_on(text, end, table) {
-        return bad(at);
+        return Step::Bad(start);
     }
-    token(tokens::INTEGER, at, end)
+    token(tokens::INTEGER, start, end, line)
 }
 
 // A string: a quote, what stands inside, and the same quote.
-fn string(text: &[u8], at: usize, quote: u8, table: &[u8; 256]) -> Step
-    requires { ⌜ (now table ≡ classes) × (class quote ≡ quoteClass) × (at < length (now text)) ⌝ }
-    ensures { λ r. ⌜ r ≡ stepOf (stringScan at (inside quote false (drop (at + 1) (now (text .entry))))) ⌝ }
+fn string(text: &[u8], start: Place, line: Line, quote: u8, table: &[u8; 256]) -> Step
+    requires { ⌜ (now table ≡ classes) × (class quote ≡ quoteClass) × (start .offset < length (now text)) ⌝ }
+    ensures { λ r. ⌜ r ≡ onLine line (stringScan start (inside quote false (drop (start .offset + 1) (now (text .entry))))) ⌝ }
 {
+    let at = start.offset;
     let Closing::Before(next) = string_end(text, at + 1, quote, table) else {
-        return bad(at);
+        return Step::Bad(start);
     };
-    token(tokens::STRING, at, next)
+    token(tokens::STRING, start, next, line)
 }
 
 // A colon that stands right here.
@@ -260,46 +252,103 @@ fn is_colon(text: &[u8], at: usize) -> bool
     false
 }
 
+// The token that begins here, with the byte b, of a sort (its class) that does not separate: a name, an integer, one of
+// `{ } < > : - [ ] , ;`, a string, or a bad one.
+fn token_at(text: &[u8], from: Cursor, b: u8, sort: u8, table: &[u8; 256]) -> Step
+    requires { ⌜ (now table ≡ classes) × Met (now text) from b × (sort ≡ class b) ⌝ }
+    ensures { λ r. ⌜ r ≡ onLine (from .line) (scanFrom (placeAt from) (drop (from .at) (now (text .entry)))) ⌝ }
+{
+    let start = from.place();
+    let line = from.line;
+    if DIGIT < sort {
+        return token(
+            tokens::NAME,
+            start,
+            name_end(text, start.offset + 1, table),
+            line,
+        );
+    }
+    if SYMBOL < sort {
+        return integer(text, start, line, b, table);
+    }
+    if sort == SYMBOL {
+        return token(b, start, start.offset + 1, line);
+    }
+    if sort == QUOTE {
+        return string(text, start, line, b, table);
+    }
+    Step::Bad(start)
+}
+
 impl Cursor {
-    // The next token: a name, an integer, a string, one of `{ } < > : - [ ] , ;`, or the end of the text.
-    pub fn next(self, text: &[u8], table: &[u8; 256]) -> Step
-        requires { ⌜ now table ≡ classes ⌝ }
-        ensures { λ r. ⌜ r ≡ stepOf (scan (now (text .entry)) (self .at)) ⌝ }
+    // Where a cursor stands.
+    fn place(self) -> Place
+        requires { ⌜ (self .at ≤ mostText) × (self .line .began ≤ self .at) ⌝ }
+        ensures { λ r. ⌜ r ≡ placeAt self ⌝ }
     {
-        let from = self.at;
-        let at = skip(text, from, table);
-        if text.len() <= at {
-            return token(tokens::END, at, at);
-        }
-        let b = text[at];
-        match class_of(b, table) {
-            LETTER => token(tokens::NAME, at, name_end(text, at + 1, table)),
-            DIGIT => integer(text, at, b, table),
-            QUOTE => string(text, at, b, table),
-            SYMBOL => token(b, at, at + 1),
-            _ => bad(at),
+        let line = self.line;
+        let column = self.at as u32 - line.began + 1;
+        Place {
+            offset: self.at,
+            line: line.number,
+            column: column,
         }
     }
 
-    // The next token from a spot on.
-    pub fn next_from(q: Spot, text: &[u8], table: &[u8; 256]) -> Step
-        requires { ⌜ now table ≡ classes ⌝ }
-        ensures { λ r. ⌜ r ≡ stepOf (scan (now (text .entry)) (q .at)) ⌝ }
+    // The next token, or the end of the text. Only what separates holds a newline, so lines are counted here and nowhere else.
+    pub fn next(self, text: &[u8], table: &[u8; 256]) -> Step
+        requires { ⌜ (now table ≡ classes) × Located (now text) self ⌝ }
+        ensures { λ r. ⌜ r ≡ stepOf (now (text .entry)) (scan (now (text .entry)) (self .at)) ⌝ }
     {
-        let c = Cursor { at: q.at };
+        let mut i = self.at;
+        let mut line = self.line;
+        while i < text.len() {
+            let b = text[i];
+            let class = class_of(b, table);
+            if !separates(class) {
+                let from = Cursor { at: i, line: line };
+                return token_at(text, from, b, class, table);
+            }
+            i += 1;
+            if class != SPACE {
+                if class == NEWLINE {
+                    let number = line.number + 1;
+                    let began = i as u32;
+                    line = Line {
+                        number: number,
+                        began: began,
+                    };
+                } else {
+                    i = comment_end(text, i);
+                }
+            }
+        }
+        let end = Cursor { at: i, line: line };
+        token(tokens::END, end.place(), i, line)
+    }
+
+    // The next token from a spot on, which stands on a line.
+    pub fn next_from(q: Spot, line: Line, text: &[u8], table: &[u8; 256]) -> Step
+        requires { ⌜ (now table ≡ classes) × Located (now text) (record { at = q .at; line = line }) ⌝ }
+        ensures { λ r. ⌜ r ≡ stepOf (now (text .entry)) (scan (now (text .entry)) (q .at)) ⌝ }
+    {
+        let c = Cursor {
+            at: q.at,
+            line: line,
+        };
         c.next(text, table)
     }
 
     // The same where a colon is due: one that stands right there is taken without a scan.
-    pub fn colon_from(q: Spot, text: &[u8], table: &[u8; 256]) -> Step
-        requires { ⌜ now table ≡ classes ⌝ }
-        ensures { λ r. ⌜ r ≡ stepOf (scan (now (text .entry)) (q .at)) ⌝ }
+    pub fn colon_from(q: Spot, line: Line, text: &[u8], table: &[u8; 256]) -> Step
+        requires { ⌜ (now table ≡ classes) × Located (now text) (record { at = q .at; line = line }) ⌝ }
+        ensures { λ r. ⌜ r ≡ stepOf (now (text .entry)) (scan (now (text .entry)) (q .at)) ⌝ }
     {
         let at = q.at;
         if is_colon(text, at) {
-            let next = at + 1;
-            return token(tokens::COLON, at, next);
+            let c = Cursor { at: at, line: line };
+            return token(tokens::COLON, c.place(), at + 1, line);
         }
-        Cursor::next_from(q, text, table)
+        Cursor::next_from(q, line, text, table)
     }
 }

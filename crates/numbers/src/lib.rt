@@ -11,11 +11,13 @@ use leaves::most_signed;
 use leaves::most_unsigned;
 use leaves::put_number;
 use lexer::Cursor;
+use lexer::Line;
 use lexer::Step;
 ghost use mathlib.Core.Bool.{true};
 ghost use Rattle.definitions.specs.Tokens.{token};
 ghost use Rattle.definitions.specs.Reading.{integerTok, unsigned, signedValue};
-ghost use Rattle.leaves.specs.Answers.{Fair, Ready, Holds, Reached, AnswersHere, signedWidth, unsignedWidth};
+ghost use Rattle.lexer.specs.Steps.{lineAt};
+ghost use Rattle.leaves.specs.Answers.{Fair, Ready, Holds, OnLine, Reached, AnswersHere, signedWidth, unsignedWidth};
 
 // An integer's token: decimal, octal or hex, of at most `most`.
 fn read_integer(
@@ -28,8 +30,8 @@ fn read_integer(
     after: Cursor,
     nodes: &mut [u32],
 ) -> Answer
-    requires { ⌜ Holds w q × Reached (now s) t (after .at) ⌝ }
-    ensures { λ r. ⌜ AnswersHere (now (nodes .entry)) (now (nodes .exit)) q (integerTok (now (s .entry)) w negative most q (token t (after .at))) r ⌝ }
+    requires { ⌜ Holds w q × Reached (now s) t (after .at) × OnLine (now s) after ⌝ }
+    ensures { λ r. ⌜ AnswersHere (lineAt (now (s .entry))) (now (nodes .entry)) (now (nodes .exit)) q (integerTok (now (s .entry)) w negative most q (token t (after .at))) r ⌝ }
 {
     let place = t.start;
     if t.kind != tokens::INTEGER {
@@ -40,15 +42,22 @@ fn read_integer(
     let Integer::Worth(v) = integers::integer(&s[from..to], negative, most) else {
         return Answer::No(refusals::OVERFLOW, place);
     };
-    put_number(w, q, to, v, nodes)
+    put_number(w, q, after, v, nodes)
 }
 
 // u32, u64: an integer.
-pub fn read_unsigned(s: &[u8], table: &[u8; 256], w: Want, q: Spot, nodes: &mut [u32]) -> Answer
-    requires { ⌜ Ready (now table) × Fair (now s) q × Holds w q ⌝ }
-    ensures { λ r. ⌜ AnswersHere (now (nodes .entry)) (now (nodes .exit)) q (unsigned (now (s .entry)) w (unsignedWidth (w .kind)) q) r ⌝ }
+pub fn read_unsigned(
+    s: &[u8],
+    table: &[u8; 256],
+    w: Want,
+    q: Spot,
+    line: Line,
+    nodes: &mut [u32],
+) -> Answer
+    requires { ⌜ Ready (now table) × Fair (now s) q line × Holds w q ⌝ }
+    ensures { λ r. ⌜ AnswersHere (lineAt (now (s .entry))) (now (nodes .entry)) (now (nodes .exit)) q (unsigned (now (s .entry)) w (unsignedWidth (w .kind)) q) r ⌝ }
 {
-    let st = Cursor::next_from(q, s, table);
+    let st = Cursor::next_from(q, line, s, table);
     let Step::Token(t, after) = st else {
         return bad(st);
     };
@@ -57,11 +66,18 @@ pub fn read_unsigned(s: &[u8], table: &[u8; 256], w: Want, q: Spot, nodes: &mut 
 }
 
 // i32, i64: an integer, or `-` and an integer.
-pub fn read_signed(s: &[u8], table: &[u8; 256], w: Want, q: Spot, nodes: &mut [u32]) -> Answer
-    requires { ⌜ Ready (now table) × Fair (now s) q × Holds w q ⌝ }
-    ensures { λ r. ⌜ AnswersHere (now (nodes .entry)) (now (nodes .exit)) q (signedValue (now (s .entry)) w (signedWidth (w .kind)) q) r ⌝ }
+pub fn read_signed(
+    s: &[u8],
+    table: &[u8; 256],
+    w: Want,
+    q: Spot,
+    line: Line,
+    nodes: &mut [u32],
+) -> Answer
+    requires { ⌜ Ready (now table) × Fair (now s) q line × Holds w q ⌝ }
+    ensures { λ r. ⌜ AnswersHere (lineAt (now (s .entry))) (now (nodes .entry)) (now (nodes .exit)) q (signedValue (now (s .entry)) w (signedWidth (w .kind)) q) r ⌝ }
 {
-    let st = Cursor::next_from(q, s, table);
+    let st = Cursor::next_from(q, line, s, table);
     let Step::Token(t, after) = st else {
         return bad(st);
     };

@@ -18,7 +18,7 @@ readOf (denied why at) = read.No why at
 
 -- a refusal, passed on
 abbrev pub refusalOf : Answer → Read
-refusalOf (answer.Done q) = read.Made (q .node) (q .byte)
+refusalOf (answer.Done q l) = read.Made (q .node) (q .byte)
 refusalOf (answer.No why at) = read.No why at
 
 unfoldable pub fittedRead : (image : List ℕ) (root : ℕ) (s : List ℕ) (count size : ℕ) → refusals.Answer Made

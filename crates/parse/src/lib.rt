@@ -12,7 +12,7 @@ use records::Layout;
 ghost use mathlib.Core.Path.{_≡_};
 ghost use Prim.Native.Nat.{_≤_, _<_};
 ghost use lib.ListN.{length};
-ghost use Rattle.definitions.specs.Refusals.{mostText};
+ghost use Rattle.definitions.specs.Refusals.{mostText, unplaced};
 ghost use Rattle.definitions.specs.Reading.{nodeRoom};
 ghost use Rattle.records.specs.Known.{Known};
 ghost use Rattle.parse.specs.Whole.{readOf, refusalOf, fittedRead, fittedNodes, fittedPool};
@@ -22,6 +22,17 @@ ghost use Rattle.definitions.specs.Image.{messageCount};
 pub enum Read {
     Made(usize, usize),
     No(u8, Place),
+}
+
+// No place in the text, but the number that goes with a refusal (02 §1).
+pub fn unplaced(n: usize) -> Place
+    ensures { λ r. ⌜ r ≡ unplaced n ⌝ }
+{
+    Place {
+        offset: n,
+        line: 0,
+        column: 0,
+    }
 }
 
 // The nodes that so many words hold.
@@ -58,16 +69,16 @@ pub fn read_text(
         &mut nodes[..0],
         &mut pool[..0],
     );
-    let Answer::Done(next) = counted else {
+    let Answer::Done(next, _) = counted else {
         return refusal(counted);
     };
     let n = next.node;
     let b = next.byte;
     if node_room(nodes.len()) < n {
-        return Read::No(refusals::NODES_SHORT, Place { offset: n });
+        return Read::No(refusals::NODES_SHORT, unplaced(n));
     }
     if pool.len() < b {
-        return Read::No(refusals::POOL_SHORT, Place { offset: b });
+        return Read::No(refusals::POOL_SHORT, unplaced(b));
     }
     read_root(s, image, layout, &table, &escape, root, nodes, pool);
     put_body(nodes, 0, kinds::MESSAGE, 0, n);
@@ -80,6 +91,6 @@ fn refusal(a: Answer) -> Read
 {
     match a {
         Answer::No(why, at) => Read::No(why, at),
-        Answer::Done(q) => Read::Made(q.node, q.byte),
+        Answer::Done(q, _) => Read::Made(q.node, q.byte),
     }
 }

@@ -13,7 +13,7 @@ use Rattle.definitions.specs.declared.Spot.{Spot}
 use Rattle.definitions.specs.declared.Place.{Place}
 use Rattle.definitions.specs.declared.Node.{Node}
 use Rattle.definitions.specs.Basics.{if_then_else_}
-use Rattle.definitions.specs.Refusals.{Answer, given, denied, place, badSchema, noMessage, textTooLong, badTable, bufferShort, requiredMissing, noValue, mostText, mostDepth}
+use Rattle.definitions.specs.Refusals.{Answer, given, denied, unplaced, badSchema, noMessage, textTooLong, badTable, bufferShort, requiredMissing, noValue, mostText, mostDepth}
 use Rattle.definitions.specs.Image.{accepted, isMessage, messageCount}
 use Rattle.definitions.specs.Scope.{inMessage, body}
 use Rattle.definitions.specs.Nodes.{words, nodeAt, runOf}
@@ -117,7 +117,7 @@ barred-none schema root test why e = go (accepted schema) (isMessage schema root
 
 not-barred : {A : Type 0} (o : Option ℕ) (rest : Unit {0} → Answer A) (a : A) → unbarred o rest ≡ given a → (o ≡ none) × (rest tt ≡ given a)
 not-barred none rest a e = (refl, e)
-not-barred (some why) rest a e = denied-given why (place 0) a e
+not-barred (some why) rest a e = denied-given why (unplaced 0) a e
 
 -- ---- the theorem
 
@@ -183,7 +183,7 @@ either-good false a why p n = denied-good why p n
 
 room-good : (room count : ℕ) → NotBadTable (printFitted room count)
 room-good room count =
-    by-test NotBadTable (ltb room count) _ _ (λ _. denied-good bufferShort (place count) (λ z. omega arith)) (λ _. given-good count)
+    by-test NotBadTable (ltb room count) _ _ (λ _. denied-good bufferShort (unplaced count) (λ z. omega arith)) (λ _. given-good count)
 
 pub usable : (schema : List ℕ) (root : ℕ) (w pool : List ℕ) → barred schema root (λ _. valid schema root w pool) badTable ≡ none
     → Usable schema root w pool
@@ -192,8 +192,8 @@ usable schema root w pool b = record {
   passes = b;
   printed = λ y room. rw b (room-good room (length (printText schema y root w pool)));
   checked =
-      rw b (either-good (complete schema (inMessage root) (meaning schema root w pool)) tt requiredMissing (place 0) (λ z. omega arith));
-  accessed = λ i. rw b (either-good (isValue w i) (runOf pool (nodeAt w i)) noValue (place 0) (λ z. omega arith));
+      rw b (either-good (complete schema (inMessage root) (meaning schema root w pool)) tt requiredMissing (unplaced 0) (λ z. omega arith));
+  accessed = λ i. rw b (either-good (isValue w i) (runOf pool (nodeAt w i)) noValue (unplaced 0) (λ z. omega arith));
 }
 
 pub read-usable : (schema : List ℕ) (root : ℕ) (text nodes pool : List ℕ) → ReadUsable schema root text nodes pool

@@ -1,2 +1,3 @@
--- What is read is valid, in words and as a statement.
+-- What is read is valid, and where a refusal points, in words and as statements.
 pub mod ReadValid
+pub mod Told

@@ -1,1 +1,2 @@
-// What is read is valid, as a theorem over the definitions: see specs/ for what it says and proofs/ for why it holds.
+// What is read is valid, and where each refusal points, as theorems over the definitions: see specs/ for what they say and proofs/ for
+// why they hold.

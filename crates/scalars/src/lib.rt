@@ -15,12 +15,14 @@ use definitions::tokens;
 use leaves::Answer;
 use leaves::bad;
 use lexer::Cursor;
+use lexer::Line;
 use lexer::Step;
 use numbers::read_signed;
 use numbers::read_unsigned;
 use records::Layout;
 ghost use Rattle.definitions.specs.Reading.{scalar, afterName};
 ghost use Rattle.records.specs.Known.{Known};
+ghost use Rattle.lexer.specs.Steps.{lineAt};
 ghost use Rattle.leaves.specs.Answers.{Fair, Lent, Fits, Holds, Answers};
 
 // A value of a type that is no message, from behind its colon on.
@@ -32,26 +34,27 @@ fn read_scalar(
     escape: &[u8; 22],
     w: Want,
     q: Spot,
+    line: Line,
     nodes: &mut [u32],
     pool: &mut [u8],
 ) -> Answer
-    requires { ⌜ Lent (now table) (now escape) × Known (now image) layout × Fair (now s) q × Holds w q × Fits (now image) w ⌝ }
-    ensures { λ r. ⌜ Answers (now (nodes .entry)) (now (nodes .exit)) (now (pool .entry)) (now (pool .exit)) q (scalar (now (image .entry)) (now (s .entry)) w q) r ⌝ }
+    requires { ⌜ Lent (now table) (now escape) × Known (now image) layout × Fair (now s) q line × Holds w q × Fits (now image) w ⌝ }
+    ensures { λ r. ⌜ Answers (lineAt (now (s .entry))) (now (nodes .entry)) (now (nodes .exit)) (now (pool .entry)) (now (pool .exit)) q (scalar (now (image .entry)) (now (s .entry)) w q) r ⌝ }
 {
     let kind = w.kind;
     if kind < kinds::U32 {
-        return read_signed(s, table, w, q, nodes);
+        return read_signed(s, table, w, q, line, nodes);
     }
     if kind < kinds::BOOL {
-        return read_unsigned(s, table, w, q, nodes);
+        return read_unsigned(s, table, w, q, line, nodes);
     }
     if kind == kinds::BOOL {
-        return read_bool(s, table, w, q, nodes);
+        return read_bool(s, table, w, q, line, nodes);
     }
     if kind == kinds::ENUM {
-        return read_enum(s, image, layout, table, w, q, nodes);
+        return read_enum(s, image, layout, table, w, q, line, nodes);
     }
-    read_string(s, table, escape, w, q, nodes, pool)
+    read_string(s, table, escape, w, q, line, nodes, pool)
 }
 
 // `:` and a value.
@@ -63,13 +66,14 @@ pub fn read_colon(
     escape: &[u8; 22],
     w: Want,
     q: Spot,
+    line: Line,
     nodes: &mut [u32],
     pool: &mut [u8],
 ) -> Answer
-    requires { ⌜ Lent (now table) (now escape) × Known (now image) layout × Fair (now s) q × Holds w q × Fits (now image) w ⌝ }
-    ensures { λ r. ⌜ Answers (now (nodes .entry)) (now (nodes .exit)) (now (pool .entry)) (now (pool .exit)) q (afterName (now (image .entry)) (now (s .entry)) w q) r ⌝ }
+    requires { ⌜ Lent (now table) (now escape) × Known (now image) layout × Fair (now s) q line × Holds w q × Fits (now image) w ⌝ }
+    ensures { λ r. ⌜ Answers (lineAt (now (s .entry))) (now (nodes .entry)) (now (nodes .exit)) (now (pool .entry)) (now (pool .exit)) q (afterName (now (image .entry)) (now (s .entry)) w q) r ⌝ }
 {
-    let st = Cursor::colon_from(q, s, table);
+    let st = Cursor::colon_from(q, line, s, table);
     let Step::Token(t, after) = st else {
         return bad(st);
     };
@@ -82,5 +86,6 @@ pub fn read_colon(
         node: q.node,
         byte: q.byte,
     };
-    read_scalar(s, image, layout, table, escape, w, on, nodes, pool)
+    let next = after.line;
+    read_scalar(s, image, layout, table, escape, w, on, next, nodes, pool)
 }

@@ -9,10 +9,12 @@ use leaves::bad;
 use leaves::is_broken;
 use leaves::put;
 use lexer::Cursor;
+use lexer::Line;
 use lexer::Step;
 use strings::Decoded;
 ghost use Rattle.definitions.specs.Scope.{string};
 ghost use Rattle.definitions.specs.Reading.{stringValue};
+ghost use Rattle.lexer.specs.Steps.{lineAt};
 ghost use Rattle.leaves.specs.Answers.{Fair, Lent, Holds, Answers};
 
 // string, bytes: a string, its escapes decoded into the pool.
@@ -22,13 +24,14 @@ pub(crate) fn read_string(
     escape: &[u8; 22],
     w: Want,
     q: Spot,
+    line: Line,
     nodes: &mut [u32],
     pool: &mut [u8],
 ) -> Answer
-    requires { ⌜ Lent (now table) (now escape) × Fair (now s) q × Holds w q ⌝ }
-    ensures { λ r. ⌜ Answers (now (nodes .entry)) (now (nodes .exit)) (now (pool .entry)) (now (pool .exit)) q (stringValue (now (s .entry)) w q) r ⌝ }
+    requires { ⌜ Lent (now table) (now escape) × Fair (now s) q line × Holds w q ⌝ }
+    ensures { λ r. ⌜ Answers (lineAt (now (s .entry))) (now (nodes .entry)) (now (nodes .exit)) (now (pool .entry)) (now (pool .exit)) q (stringValue (now (s .entry)) w q) r ⌝ }
 {
-    let st = Cursor::next_from(q, s, table);
+    let st = Cursor::next_from(q, line, s, table);
     let Step::Token(t, after) = st else {
         return bad(st);
     };
@@ -46,6 +49,7 @@ pub(crate) fn read_string(
         return Answer::No(refusals::BAD_STRING, place);
     }
     let k = q.node;
+    let end = after.line;
     put(
         nodes,
         k,
@@ -57,9 +61,12 @@ pub(crate) fn read_string(
             end: (k + 1) as u32,
         },
     );
-    Answer::Done(Spot {
-        at: after.at,
-        node: k + 1,
-        byte: p + count,
-    })
+    Answer::Done(
+        Spot {
+            at: after.at,
+            node: k + 1,
+            byte: p + count,
+        },
+        end,
+    )
 }

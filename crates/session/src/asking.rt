@@ -11,35 +11,35 @@ use crate::state;
 use crate::state::Answer;
 use crate::state::State;
 use crate::text;
+use definitions::Place;
 use text_format::Checked;
 use text_format::Printed;
 use text_format::Valued;
 
-// The letter and `NO AT`, which are 0 0 where nothing is refused.
-fn begun(buf: &mut Out, letter: u8, no: usize, place: usize) -> usize {
+// The letter and `0 0`, where nothing is refused.
+fn granted(buf: &mut Out, letter: u8) -> usize {
     let a = out::byte(buf, 0, letter);
-    let b = out::number(buf, a, no);
-    out::number(buf, b, place)
+    out::bytes(buf, a, b" 0 0")
 }
 
-// The same as a whole line.
-fn refused(buf: &mut Out, letter: u8, no: usize, place: usize) -> usize {
-    let at = begun(buf, letter, no, place);
-    out::byte(buf, at, b'\n')
+// The letter and `NO AT LINE COL`.
+fn denied(buf: &mut Out, letter: u8, no: usize, place: Place) -> usize {
+    let a = out::byte(buf, 0, letter);
+    out::refusal(buf, a, no, place)
 }
 
 // `C 0 0 LENGTH HEX KEPT`. Where the length went over the room, what is there is told.
 fn printed(buf: &mut Out, letter: u8, room: &[u8], length: usize) -> usize {
     let n = line::least(length, room.len());
-    let a = begun(buf, letter, 0, 0);
+    let a = granted(buf, letter);
     let b = out::number(buf, a, length);
     let c = out::hex(buf, b, line::front(room, n));
     out::kept(buf, c, text::kept_bytes(room, n))
 }
 
-// `C NO AT KEPT`
-fn unprinted(buf: &mut Out, letter: u8, room: &[u8], no: usize, place: usize) -> usize {
-    let a = begun(buf, letter, no, place);
+// `C NO AT LINE COL KEPT`
+fn unprinted(buf: &mut Out, letter: u8, room: &[u8], no: usize, place: Place) -> usize {
+    let a = denied(buf, letter, no, place);
     out::kept(buf, a, text::kept_bytes(room, 0))
 }
 
@@ -70,7 +70,7 @@ fn print_in(
     text::fill_bytes(room);
     match print_styled(letter, image, root, table, pool, room) {
         Printed::Length(n) => printed(buf, letter, room, n),
-        Printed::No(no, place) => unprinted(buf, letter, room, no as usize, place.offset),
+        Printed::No(no, place) => unprinted(buf, letter, room, no as usize, place),
     }
 }
 
@@ -103,12 +103,14 @@ pub(crate) fn print(
     state::done(state, at)
 }
 
-// `Q NO AT`
+// `Q 0 0` or `Q NO AT LINE COL`
 fn required_of(buf: &mut Out, image: &[u8], root: usize, table: &[u32], pool: &[u8]) -> usize {
     if let Checked::No(no, place) = text_format::check_required(image, root, table, pool) {
-        return refused(buf, b'Q', no as usize, place.offset);
+        let a = denied(buf, b'Q', no as usize, place);
+        return out::byte(buf, a, b'\n');
     }
-    refused(buf, b'Q', 0, 0)
+    let b = granted(buf, b'Q');
+    out::byte(buf, b, b'\n')
 }
 
 pub(crate) fn required(
@@ -128,7 +130,7 @@ pub(crate) fn required(
     state::done(state, at)
 }
 
-// `A 0 0 HEX` or `A NO AT`
+// `A 0 0 HEX` or `A NO AT LINE COL`
 fn access_to(
     buf: &mut Out,
     image: &[u8],
@@ -138,9 +140,10 @@ fn access_to(
     node: usize,
 ) -> usize {
     if let Valued::No(no, place) = text_format::value_number(image, root, table, pool, node) {
-        return refused(buf, b'A', no as usize, place.offset);
+        let refused = denied(buf, b'A', no as usize, place);
+        return out::byte(buf, refused, b'\n');
     }
-    let a = begun(buf, b'A', 0, 0);
+    let a = granted(buf, b'A');
     let b = out::hex(
         buf,
         a,

@@ -12,6 +12,7 @@ use crate::state::Answer;
 use crate::state::State;
 use crate::text;
 use carry::Carried;
+use definitions::Place;
 
 // `STYLE ROOM WORDS BYTES`. Where a number is missing, or the style is neither 0 nor 1, a size is over every room's length.
 struct Asked {
@@ -58,7 +59,7 @@ fn made(
     out::kept(buf, b, text::kept(nodes, told.words, pool, told.bytes))
 }
 
-// `X print NO AT BUFFERHEX KEPT`, or `X read ..` where the read refused.
+// `X print NO AT LINE COL BUFFERHEX KEPT`, or `X read ..` where the read refused.
 fn refused(
     buf: &mut Out,
     by: &[u8],
@@ -66,13 +67,12 @@ fn refused(
     nodes: &[u32],
     pool: &[u8],
     no: usize,
-    place: usize,
+    place: Place,
 ) -> usize {
     let a = out::bytes(buf, 0, by);
-    let b = out::number(buf, a, no);
-    let c = out::number(buf, b, place);
-    let d = out::hex(buf, c, room);
-    out::kept(buf, d, text::kept(nodes, 0, pool, 0))
+    let b = out::refusal(buf, a, no, place);
+    let c = out::hex(buf, b, room);
+    out::kept(buf, c, text::kept(nodes, 0, pool, 0))
 }
 
 fn told(buf: &mut Out, carried: Carried, room: &[u8], words: &[u32], bytes: &[u8]) -> usize {
@@ -85,7 +85,7 @@ fn told(buf: &mut Out, carried: Carried, room: &[u8], words: &[u32], bytes: &[u8
             words,
             bytes,
             no as usize,
-            place.offset,
+            place,
         ),
         Carried::NotRead(no, place) => refused(
             buf,
@@ -94,7 +94,7 @@ fn told(buf: &mut Out, carried: Carried, room: &[u8], words: &[u32], bytes: &[u8
             words,
             bytes,
             no as usize,
-            place.offset,
+            place,
         ),
     }
 }

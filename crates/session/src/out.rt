@@ -1,6 +1,7 @@
 // What is written, by way of a buffer: `at` bytes of it are to be written yet, and each function answers how many are then.
 use crate::line;
 use crate::rooms::Out;
+use definitions::Place;
 ghost use Prim.Native.Nat.{_<_};
 use libc::STDOUT_FILENO;
 
@@ -36,6 +37,14 @@ pub(crate) fn number(out: &mut Out, at: usize, n: usize) -> usize {
     let k = io::decimal(n as u64, &mut digits);
     let to = byte(out, at, b' ');
     bytes(out, to, &digits[..k])
+}
+
+// ` NO AT LINE COL`
+pub(crate) fn refusal(out: &mut Out, at: usize, no: usize, place: Place) -> usize {
+    let a = number(out, at, no);
+    let b = number(out, a, place.offset);
+    let c = number(out, b, place.line as usize);
+    number(out, c, place.column as usize)
 }
 
 fn glyph(d: u8) -> u8

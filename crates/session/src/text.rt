@@ -2,6 +2,7 @@
 use crate::line;
 use crate::out;
 use crate::rooms::Out;
+use definitions::Place;
 use parse::Read;
 
 // What every word and byte of a room holds before a call.
@@ -114,12 +115,11 @@ fn made(buf: &mut Out, nodes: &[u32], pool: &[u8], count: usize, used: usize) ->
     }
 }
 
-// `T NO AT KEPT`
-fn refused(buf: &mut Out, nodes: &[u32], pool: &[u8], no: usize, place: usize) -> Outcome {
+// `T NO AT LINE COL KEPT`
+fn refused(buf: &mut Out, nodes: &[u32], pool: &[u8], no: usize, place: Place) -> Outcome {
     let a = out::byte(buf, 0, b'T');
-    let b = out::number(buf, a, no);
-    let c = out::number(buf, b, place);
-    let at = out::kept(buf, c, kept(nodes, 0, pool, 0));
+    let b = out::refusal(buf, a, no, place);
+    let at = out::kept(buf, b, kept(nodes, 0, pool, 0));
     Outcome {
         is_request: true,
         is_made: false,
@@ -142,6 +142,6 @@ pub(crate) fn read(
     fill_bytes(pool);
     match text_format::read(schema, root, text, nodes, pool) {
         Read::Made(count, used) => made(buf, nodes, pool, count, used),
-        Read::No(no, place) => refused(buf, nodes, pool, no as usize, place.offset),
+        Read::No(no, place) => refused(buf, nodes, pool, no as usize, place),
     }
 }

@@ -7,7 +7,7 @@ use native.Mathlib.Omega.{arith}
 use lib.ListN.{length}
 use lib.Seq.{sets}
 use borrow.Author.Tests.{lt-ltb, le-ltb}
-use Rattle.definitions.specs.Refusals.{bufferShort, place}
+use Rattle.definitions.specs.Refusals.{bufferShort, unplaced}
 use Rattle.definitions.specs.Print.{Style, printText, printAnswer, printBuffer}
 use Rattle.spelling.specs.Written.{Written}
 use Rattle.text_format.specs.declared.Printed.{Printed}
@@ -25,7 +25,7 @@ empty-part [] e h = refl
 empty-part (x ∷ p) e h = absurd (omega arith)
 
 module _ (image : List ℕ) (y : Style) (root : ℕ) (w pool e : List ℕ) where
-  pub print-barred : (why : ℕ) → tableBarred image root w pool ≡ some why → Prints image y root w pool e (printed.No why (place 0)) e
+  pub print-barred : (why : ℕ) → tableBarred image root w pool ≡ some why → Prints image y root w pool e (printed.No why (unplaced 0)) e
   unfolding printAnswer printBuffer tableBarred
   print-barred why h = (rw h refl, rw h refl)
 
@@ -33,7 +33,7 @@ module _ (image : List ℕ) (y : Style) (root : ℕ) (w pool e : List ℕ) where
     counted : n ≡ length (printText image y root w pool)
     counted = omega (arith, c .ends)
 
-    pub print-short : length x < n → Prints image y root w pool e (printed.No bufferShort (place n)) x
+    pub print-short : length x < n → Prints image y root w pool e (printed.No bufferShort (unplaced n)) x
     unfolding printAnswer printBuffer tableBarred
     print-short lt =
         let lt′ : length e < length (printText image y root w pool) = rw (ex, counted) at lt in

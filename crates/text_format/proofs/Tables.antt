@@ -8,7 +8,7 @@ use native.Mathlib.Omega.{arith}
 use lib.Dec.{ltb}
 use borrow.Author.Tests.{lt-ltb, le-ltb, ltb-true, ltb-false}
 use Rattle.definitions.specs.Basics.{if_then_else_}
-use Rattle.definitions.specs.Refusals.{badSchema, noMessage, badTable, requiredMissing, noValue, place, Answer, given, denied}
+use Rattle.definitions.specs.Refusals.{badSchema, noMessage, badTable, requiredMissing, noValue, unplaced, Answer, given, denied}
 use Rattle.definitions.specs.Image.{accepted, isMessage, messageCount}
 use Rattle.definitions.specs.Scope.{inMessage}
 use Rattle.definitions.specs.Nodes.{nodeAt, runOf}
@@ -86,11 +86,11 @@ module _ (image : List ℕ) (root : ℕ) (w pool : List ℕ) where
 
   -- ---- answers
 
-  pub required-barred : (why : ℕ) → tableBarred image root w pool ≡ some why → checked.No why (place 0) ≡ checkedOf (requiredAnswer image root w pool)
+  pub required-barred : (why : ℕ) → tableBarred image root w pool ≡ some why → checked.No why (unplaced 0) ≡ checkedOf (requiredAnswer image root w pool)
   unfolding requiredAnswer tableBarred
   required-barred why h = rw h refl
 
-  pub value-barred : (i why : ℕ) → tableBarred image root w pool ≡ some why → valued.No why (place 0) ≡ valuedOf (valueAnswer image root w pool i)
+  pub value-barred : (i why : ℕ) → tableBarred image root w pool ≡ some why → valued.No why (unplaced 0) ≡ valuedOf (valueAnswer image root w pool i)
   unfolding valueAnswer tableBarred
   value-barred i why h = rw h refl
 
@@ -103,7 +103,7 @@ module _ (image : List ℕ) (root : ℕ) (w pool : List ℕ) where
     unfolding requiredAnswer tableBarred
     required-complete h = simp (f .unbarred, sym h)
 
-    pub required-missing : false ≡ complete image (inMessage root) (meaning image root w pool) → checked.No requiredMissing (place 0) ≡ checkedOf (requiredAnswer image root w pool)
+    pub required-missing : false ≡ complete image (inMessage root) (meaning image root w pool) → checked.No requiredMissing (unplaced 0) ≡ checkedOf (requiredAnswer image root w pool)
     unfolding requiredAnswer tableBarred
     required-missing h = simp (f .unbarred, sym h)
 
@@ -115,11 +115,11 @@ module _ (image : List ℕ) (root : ℕ) (w pool : List ℕ) where
         go true v k = simp (f .unbarred, v)
         go false v k = let z : _≡_ {A = ℕ} 0 1 = cc in absurd (omega arith)
 
-    pub value-none : (i : ℕ) (r : Run) → r ≡ valueRun w i → r ≡ run.Nothing → valued.No noValue (place 0) ≡ valuedOf (valueAnswer image root w pool i)
+    pub value-none : (i : ℕ) (r : Run) → r ≡ valueRun w i → r ≡ run.Nothing → valued.No noValue (unplaced 0) ≡ valuedOf (valueAnswer image root w pool i)
     unfolding valueAnswer tableBarred valueRun
     value-none i r h e = go (isValue w i) refl (sym e ∙ h)
       where
-        go : (b : Bool) → isValue w i ≡ b → run.Nothing ≡ (if b then (λ _. run.At (nodeAt w i .high) (nodeAt w i .low)) else λ _. run.Nothing) → valued.No noValue (place 0) ≡ valuedOf (valueAnswer image root w pool i)
+        go : (b : Bool) → isValue w i ≡ b → run.Nothing ≡ (if b then (λ _. run.At (nodeAt w i .high) (nodeAt w i .low)) else λ _. run.Nothing) → valued.No noValue (unplaced 0) ≡ valuedOf (valueAnswer image root w pool i)
         go true v k = let z : _≡_ {A = ℕ} 0 1 = cc in absurd (omega arith)
         go false v k = simp (f .unbarred, v)
 

@@ -1,10 +1,12 @@
 // The library's entry points. Any bytes may be handed in as schema, text, nodes or pool: every call ends, and answers or refuses by
 // a number of document 01. A refused call changes no byte or word that it was lent.
+use definitions::NO_PLACE;
 use definitions::Place;
 use definitions::limits::MOST_TEXT;
 use definitions::refusals;
 use message::access::Run;
 use parse::Read;
+use parse::unplaced;
 ghost use mathlib.Core.Path.{_≡_};
 ghost use lib.ListN.{length};
 ghost use Rattle.definitions.specs.Reading.{readAnswer, readNodes, readPool};
@@ -20,21 +22,21 @@ ghost use Rattle.text_format.specs.Answers.{barNumber, tableBarred, prin
 // `image` is the schema image, `root` the index of the text's message. On success the answer is Made(n, b): the first 5 * n words of
 // `nodes` and the first b bytes of `pool` hold what the text says, and the rest of both is as it was. A refusal, No(number, place),
 // leaves both as they were. In order: 1 the image is no schema; 2 it has no such message; 3 the text is over 1,048,576 bytes; 4 to 12
-// the first fault in reading order, at its offset; 13 too few words (the place is the number of nodes needed); 14 too small a pool
-// (the place is the number of bytes needed).
+// the first fault in reading order, at its offset, line and column; 13 too few words (the offset is the number of nodes needed); 14
+// too small a pool (the offset is the number of bytes needed). But for 4 to 12 line and column are 0, here and in all calls below.
 pub fn read(image: &[u8], root: usize, text: &[u8], nodes: &mut [u32], pool: &mut [u8]) -> Read
     ensures answer { λ r. ⌜ r ≡ readOf (readAnswer (now (image .entry)) root (now (text .entry)) (length (now (nodes .entry))) (length (now (pool .entry)))) ⌝ }
     ensures table { λ _. ⌜ now (nodes .exit) ≡ readNodes (now (image .entry)) root (now (text .entry)) (now (nodes .entry)) (length (now (pool .entry))) ⌝ }
     ensures bytes { λ _. ⌜ now (pool .exit) ≡ readPool (now (image .entry)) root (now (text .entry)) (length (now (nodes .entry))) (now (pool .entry)) ⌝ }
 {
     if !schema::check(image) {
-        return Read::No(refusals::BAD_SCHEMA, Place { offset: 0 });
+        return Read::No(refusals::BAD_SCHEMA, NO_PLACE);
     }
     if records::message_count(image) <= root {
-        return Read::No(refusals::NO_MESSAGE, Place { offset: 0 });
+        return Read::No(refusals::NO_MESSAGE, NO_PLACE);
     }
     if MOST_TEXT < text.len() {
-        return Read::No(refusals::TEXT_TOO_LONG, Place { offset: 0 });
+        return Read::No(refusals::TEXT_TOO_LONG, NO_PLACE);
     }
     let layout = records::layout_of(image);
     parse::read_text(image, layout, root, text, nodes, pool)
@@ -89,12 +91,12 @@ fn print_styled(
 {
     let why = table_bar(image, root, nodes, pool);
     if why != 0 {
-        return Printed::No(why, Place { offset: 0 });
+        return Printed::No(why, NO_PLACE);
     }
     let layout = records::layout_of(image);
     let n = print::text::print_text(image, layout, pretty, root, nodes, pool, &mut buffer[..0]);
     if buffer.len() < n {
-        return Printed::No(refusals::BUFFER_SHORT, Place { offset: n });
+        return Printed::No(refusals::BUFFER_SHORT, unplaced(n));
     }
     print::text::print_text(image, layout, pretty, root, nodes, pool, buffer);
     Printed::Length(n)
@@ -104,7 +106,7 @@ fn print_styled(
 //
 // On success the answer is Length(n): the first n bytes of `buffer` hold the text, and the rest is as it was. A refusal leaves the
 // buffer as it was. In order: 1 the image is no schema; 2 it has no such message; 15 the table is not valid for schema, root and pool;
-// 16 the text is longer than the buffer (the place is the length needed).
+// 16 the text is longer than the buffer (the offset is the length needed).
 pub fn print(image: &[u8], root: usize, nodes: &[u32], pool: &[u8], buffer: &mut [u8]) -> Printed
     ensures answer { λ r. ⌜ r ≡ printedOf (printAnswer (now (image .entry)) compact root (now (nodes .entry)) (now (pool .entry)) (length (now (buffer .entry)))) ⌝ }
     ensures bytes { λ _. ⌜ now (buffer .exit) ≡ printBuffer (now (image .entry)) compact root (now (nodes .entry)) (now (pool .entry)) (now (buffer .entry)) ⌝ }
@@ -134,13 +136,13 @@ pub fn check_required(image: &[u8], root: usize, nodes: &[u32], pool: &[u8]) -> 
 {
     let why = table_bar(image, root, nodes, pool);
     if why != 0 {
-        return Checked::No(why, Place { offset: 0 });
+        return Checked::No(why, NO_PLACE);
     }
     let layout = records::layout_of(image);
     if message::required::has_required(image, layout, root, nodes, pool) {
         return Checked::Complete;
     }
-    Checked::No(refusals::REQUIRED_MISSING, Place { offset: 0 })
+    Checked::No(refusals::REQUIRED_MISSING, NO_PLACE)
 }
 
 // Whether node `index` of a table is a string or bytes value. In order: 1, 2 and 15 as for `check_required`; 18 there is no such value.
@@ -149,13 +151,13 @@ pub fn value_number(image: &[u8], root: usize, nodes: &[u32], pool: &[u8], index
 {
     let why = table_bar(image, root, nodes, pool);
     if why != 0 {
-        return Valued::No(why, Place { offset: 0 });
+        return Valued::No(why, NO_PLACE);
     }
     let run = message::access::value_run(nodes, index);
     if let Run::At(_, _) = run {
         return Valued::Given;
     }
-    Valued::No(refusals::NO_VALUE, Place { offset: 0 })
+    Valued::No(refusals::NO_VALUE, NO_PLACE)
 }
 
 // The bytes of a string or bytes value, lent as a part of the pool; empty where `value_number` refuses.

@@ -8,10 +8,12 @@ use lib.Dec.{eqb}
 use lib.ListN.{length, drop}
 use lib.Seq.{drop-drop, drop-append-seam, take-append-seam}
 use borrow.Author.Tests.{eqb-true}
+use Rattle.definitions.specs.declared.Place.{Place}
 use Rattle.definitions.specs.Basics.{each, part}
 use Rattle.definitions.specs.Image.{letter, word, identifier}
 use Rattle.definitions.specs.Classes.{class, classes, goesOn, letterClass}
 use Rattle.definitions.specs.Integers.{front, runsOn}
+use Rattle.definitions.specs.Places.{placeOf}
 use Rattle.definitions.specs.Tokens.{tokenOf, gap, skip, scan, scanFrom, nameToken, endOfText}
 use Rattle.laws.proofs.Lists.{and-parts, and-made, or-parts, Stops, front-each}
 use Rattle.laws.proofs.ClassTable.{letter-class, goesOn-word}
@@ -41,7 +43,8 @@ gap-blanks (b ∷ g) r e z =
 pub drop-on : (s p r : List ℕ) (at : ℕ) → drop at s ≡ p ++ r → drop (at + length p) s ≡ r
 drop-on s p r at e = sym (drop-drop (length p) at s) ∙ ap (drop (length p)) e ∙ drop-append-seam p r
 
-pub scan-past : (s g r : List ℕ) (at : ℕ) → drop at s ≡ g ++ r → each blank g ≡ true → gap false r ≡ 0 → scan s at ≡ scanFrom (at + length g) r
+pub scan-past : (s g r : List ℕ) (at : ℕ) → drop at s ≡ g ++ r → each blank g ≡ true → gap false r ≡ 0
+    → scan s at ≡ scanFrom (placeOf s (at + length g)) r
 unfolding scan skip
 scan-past s g r at e b z =
     let n : gap false (drop at s) ≡ length g = ap (gap false) e ∙ gap-blanks g r b z in
@@ -67,14 +70,15 @@ each-goes-on (b ∷ bs) e =
     let h = and-parts (word b) (each word bs) e in
     and-made (goesOn b) (each goesOn bs) (goesOn-word b ∙ h .0) (each-goes-on bs (h .1))
 
-pub scan-name : (p : ℕ) (n r : List ℕ) → identifier n ≡ true → runsOn r ≡ false → scanFrom p (n ++ r) ≡ tokenOf nameToken p (p + length n)
+pub scan-name : (p : Place) (n r : List ℕ) → identifier n ≡ true → runsOn r ≡ false
+    → scanFrom p (n ++ r) ≡ tokenOf nameToken p (p .offset + length n)
 unfolding identifier scanFrom
 scan-name p [] r i e = let z : _≡_ {A = ℕ} 0 1 = cc in absurd (omega arith)
 scan-name p (b ∷ bs) r i e =
     let h = and-parts (letter b) (each word bs) i in
     let c : class b ≡ letterClass = eqb-true (class b) letterClass (letter-class b ∙ h .0) in
     let f : front goesOn (bs ++ r) ≡ length bs = front-each goesOn bs r (each-goes-on bs (h .1)) (stops-name r e) in
-    let n : p + 1 + length bs ≡ p + suc (length bs) = omega arith in
+    let n : p .offset + 1 + length bs ≡ p .offset + suc (length bs) = omega arith in
     rw (c, f, n)
 
 pub gap-name : (n r : List ℕ) → identifier n ≡ true → gap false (n ++ r) ≡ 0
@@ -87,16 +91,17 @@ gap-name (b ∷ bs) r i =
 
 -- a name, with blanks before it
 pub name-at : (s g n r : List ℕ) (at : ℕ) → drop at s ≡ g ++ (n ++ r) → each blank g ≡ true → identifier n ≡ true → runsOn r ≡ false
-    → scan s at ≡ tokenOf nameToken (at + length g) (at + length g + length n)
-name-at s g n r at e b i k = scan-past s g (n ++ r) at e b (gap-name n r i) ∙ scan-name (at + length g) n r i k
+    → scan s at ≡ tokenOf nameToken (placeOf s (at + length g)) (at + length g + length n)
+name-at s g n r at e b i k = scan-past s g (n ++ r) at e b (gap-name n r i) ∙ scan-name (placeOf s (at + length g)) n r i k
 
 -- a symbol of print, with blanks before it
 pub symbol-at : (s g r : List ℕ) (at c : ℕ) → drop at s ≡ g ++ (c ∷ r) → each blank g ≡ true → class c ≡ 8
-    → scan s at ≡ tokenOf c (at + length g) (at + length g + 1)
+    → scan s at ≡ tokenOf c (placeOf s (at + length g)) (at + length g + 1)
 unfolding gap scanFrom
 symbol-at s g r at c e b h = scan-past s g (c ∷ r) at e b (rw h) ∙ rw h
 
 -- the end, with blanks before it
-pub end-at : (s g : List ℕ) (at : ℕ) → drop at s ≡ g ++ [] → each blank g ≡ true → scan s at ≡ tokenOf endOfText (at + length g) (at + length g)
+pub end-at : (s g : List ℕ) (at : ℕ) → drop at s ≡ g ++ [] → each blank g ≡ true
+    → scan s at ≡ tokenOf endOfText (placeOf s (at + length g)) (at + length g)
 unfolding gap scanFrom
 end-at s g at e b = scan-past s g [] at e b refl

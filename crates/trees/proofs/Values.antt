@@ -10,12 +10,12 @@ use borrow.Author.Tests.{eqb-true, le-leb}
 use Rattle.definitions.specs.declared.Spot.{Spot}
 use Rattle.definitions.specs.declared.Want.{Want}
 use Rattle.definitions.specs.Basics.{same, each, part}
-use Rattle.definitions.specs.Refusals.{place}
 use Rattle.definitions.specs.Image.{digit, identifier, findMember}
 use Rattle.definitions.specs.Classes.{class, classes, digitClass}
 use Rattle.definitions.specs.Scope.{i32, i64, u32, u64, bool, string, byteString, enum}
 use Rattle.definitions.specs.Utf8.{utf8}
 use Rattle.definitions.specs.Integers.{runsOn, integerValue, mostUnsigned, mostSigned, signed}
+use Rattle.definitions.specs.Places.{placeOf}
 use Rattle.definitions.specs.Tokens.{tokenOf, gap, scan, integerToken}
 use Rattle.definitions.specs.Reading.{numberLeaf, runLeaf, moved, integerTok, unsigned, negated, signedValue, boolValue, memberFound, enumValue, stringValue, scalar, trueName, falseName}
 use Rattle.definitions.specs.Print.{decimal, signedDecimal, quoteBytes, quoted}
@@ -40,11 +40,12 @@ gap-decimal n r = go (decimal-begins n)
         rw (b .is, gap, c)
 
 pub integer-scan : (s g k : List ℕ) (at n : ℕ) → each blank g ≡ true → drop at s ≡ g ++ (decimal n ++ k) → runsOn k ≡ false
-    → scan s at ≡ tokenOf integerToken (at + length g) (at + length g + length (decimal n))
-integer-scan s g k at n b e r = scan-past s g (decimal n ++ k) at e b (gap-decimal n k) ∙ scan-decimal (at + length g) n k r
+    → scan s at ≡ tokenOf integerToken (placeOf s (at + length g)) (at + length g + length (decimal n))
+integer-scan s g k at n b e r = scan-past s g (decimal n ++ k) at e b (gap-decimal n k) ∙ scan-decimal (placeOf s (at + length g)) n k r
 
 integer-tok : (s : List ℕ) (w : Want) (k : List ℕ) (negative : Bool) (most n p : ℕ) (q : Spot) → drop p s ≡ decimal n ++ k → n ≤ most
-    → integerTok s w negative most q (tokenOf integerToken p (p + length (decimal n))) ≡ numberLeaf w q (p + length (decimal n)) (signed negative n)
+    → integerTok s w negative most q (tokenOf integerToken (placeOf s p) (p + length (decimal n)))
+    ≡ numberLeaf w q (p + length (decimal n)) (signed negative n)
 integer-tok s w k negative most n p q e h =
     let v : integerValue (part s p (p + length (decimal n))) ≡ n = ap integerValue (part-is s (decimal n) k p e) ∙ integerValue-decimal n in
     rw (v, le-leb n most h)
@@ -98,7 +99,8 @@ module _ (s : List ℕ) (w : Want) (g k : List ℕ) (blanks : each blank g ≡ t
 
   -- what comes of an enum value's name is what comes of looking it up
   pub reads-member : (schema n : List ℕ) → drop (q .at) s ≡ g ++ (n ++ k) → runsOn k ≡ false → identifier n ≡ true
-      → enumValue schema s w q ≡ memberFound schema w q (place (q .at + length g)) (q .at + length g + length n) (findMember schema (w .reference) n)
+      → enumValue schema s w q
+      ≡ memberFound schema w q (placeOf s (q .at + length g)) (q .at + length g + length n) (findMember schema (w .reference) n)
   unfolding enumValue
   reads-member schema n e r i = rw (name-at s g n k (q .at) e blanks i r, name-part n e)
 
@@ -124,7 +126,7 @@ module _ (s : List ℕ) (w : Want) (g k : List ℕ) (blanks : each blank g ≡ t
       let d = drop-on s g (quoted bs ++ k) (q .at) e in
       rw (
         scan-past s g (quoted bs ++ k) (q .at) e blanks (gap-quoted bs),
-        scan-quoted (q .at + length g) bs k b,
+        scan-quoted (placeOf s (q .at + length g)) bs k b,
         between-quotes bs (q .at + length g) d,
         decode-quoteBytes bs b,
         u,

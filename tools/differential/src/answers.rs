@@ -1,6 +1,7 @@
 //! Answers of both programs, as far as they are compared.
 
 use crate::hex::from_hex;
+use crate::places::Place;
 
 /// What was read or what stood in the table: both prints, and whether no required field is missing.
 #[derive(Clone, PartialEq, Eq, Debug)]
@@ -23,6 +24,7 @@ pub enum Reason {
 #[derive(Clone, PartialEq, Eq, Debug)]
 pub enum Crate {
     Accepted(Values),
+    /// The reason, and the crate's words, which begin with its place.
     Refused(Reason, String),
 }
 
@@ -34,6 +36,7 @@ pub enum Ours {
     Refused {
         number: u64,
         at: u64,
+        place: Place,
     },
     /// No answer in the protocol's form, or one that says `touched`.
     Broken(String),
@@ -79,16 +82,26 @@ pub fn crate_table(c: &str, y: &str, q: &str) -> Option<Values> {
     })
 }
 
-/// `T 0 0 ..` or `T NO AT kept`; the values follow in other answers.
+/// `T 0 0 ..` or `T NO AT LINE COL kept`; the values follow in other answers.
 pub fn our_refusal(t: &str) -> Result<(), Ours> {
     let words: Vec<&str> = t.split(' ').collect();
     match words.as_slice() {
         ["T", "0", "0", _, _, _, _, "kept"] => Ok(()),
-        ["T", number, at, "kept"] => match (number.parse(), at.parse()) {
-            (Ok(number), Ok(at)) if number > 0 => Err(Ours::Refused { number, at }),
-            _ => Err(Ours::Broken(t.to_owned())),
-        },
+        ["T", refusal @ .., "kept"] => {
+            Err(refused(refusal).unwrap_or_else(|| Ours::Broken(t.to_owned())))
+        }
         _ => Err(Ours::Broken(t.to_owned())),
+    }
+}
+
+/// `NO AT LINE COL`.
+fn refused(words: &[&str]) -> Option<Ours> {
+    let numbers: Vec<u64> = words.iter().map(|word| word.parse().ok()).collect::<Option<_>>()?;
+    match *numbers.as_slice() {
+        [number, at, line, column] if number > 0 => {
+            Some(Ours::Refused { number, at, place: Place { line, column } })
+        }
+        _ => None,
     }
 }
 
@@ -96,7 +109,7 @@ pub fn our_refusal(t: &str) -> Result<(), Ours> {
 pub fn our_values(c: &str, y: &str, q: &str) -> Ours {
     let complete = match q {
         "Q 0 0" => true,
-        "Q 17 0" => false,
+        "Q 17 0 0 0" => false,
         _ => return Ours::Broken(q.to_owned()),
     };
     match (our_print("C", c), our_print("Y", y)) {

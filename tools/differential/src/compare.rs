@@ -20,7 +20,7 @@ pub fn agree(schema: &Schema, root: usize, ours: &Ours, theirs: &Crate) -> bool 
 /// A text of too many nodes: the crate has no such limit. This rule is the comparison's, as it
 /// changes no spelling.
 pub fn is_nodes_difference(ours: &Ours, theirs: &Crate, rules: &Rules) -> bool {
-    let many = matches!(ours, Ours::Refused { number: REFUSED_NODES, at } if *at > MOST_NODES);
+    let many = matches!(ours, Ours::Refused { number: REFUSED_NODES, at, .. } if *at > MOST_NODES);
     many && matches!(theirs, Crate::Accepted(_)) && rules.has(Rule::Nodes)
 }
 

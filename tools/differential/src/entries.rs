@@ -2,7 +2,7 @@
 
 use std::io;
 
-use crate::judge::{Judge, Reading, Verdict};
+use crate::judge::{Judge, Reading};
 use crate::rules::{Rule, Rules, ALL};
 use crate::schema::schema_x;
 use crate::setting::Setting;
@@ -57,6 +57,17 @@ const INPUTS: &[(Rule, &[&str])] = &[
     ),
     (Rule::Depth, &[]),
     (Rule::Nodes, &[]),
+    (Rule::Columns, &["s: 'é' nope", "s: '😀' i", "b: # é", "i: 1\ns: 'é' e: LOW"]),
+    (
+        Rule::BadTokenPlace,
+        &[
+            "i: \u{1}",
+            "i: 1\n\n\u{1}",
+            "s: 'a",
+            "i: -\n99999999999999999999",
+            "m 99999999999999999999",
+        ],
+    ),
 ];
 
 /// An input, and how it is shown where it is long.
@@ -101,7 +112,8 @@ pub fn entries(judge: &mut Judge, page: Option<&str>) -> io::Result<bool> {
     let mut good = true;
     for rule in ALL {
         println!("### {}", rule.name());
-        println!("\n| input | document 01 | the crate |\n|---|---|---|");
+        let document = if rule.is_of_places() { "02" } else { "01" };
+        println!("\n| input | document {document} | the crate |\n|---|---|---|");
         for input in inputs(rule) {
             good &= entry(judge, rule, &input, page.as_deref())?;
         }
@@ -120,16 +132,16 @@ fn entry(judge: &mut Judge, rule: Rule, input: &Input, page: Option<&str>) -> io
     let row = format!(
         "| {} | {} | {} |",
         input.shown,
-        show::ours(&with.ours),
-        show::theirs(&with.theirs)
+        show::our_part(rule, &with.ours),
+        show::their_part(rule, &with.theirs)
     );
     println!("{row}");
     let mut good = true;
-    if with.verdict != Verdict::Listed(rule) {
-        println!("  NOT COVERED BY {}: {:?}", rule.name(), with.verdict);
+    if !with.is_covered() || !with.shows(rule) {
+        println!("  NOT COVERED BY {}: {:?}, {:?}", rule.name(), with.verdict, with.place);
         good = false;
     }
-    if without.verdict != Verdict::Different {
+    if without.is_covered() {
         println!("  NO DIFFERENCE WITHOUT {}: {:?}", rule.name(), without.verdict);
         good = false;
     }

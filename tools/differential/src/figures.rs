@@ -13,6 +13,8 @@ pub struct Figures {
     refused: BTreeMap<u64, usize>,
     /// By rule, then by the two outcomes.
     listed: BTreeMap<&'static str, BTreeMap<String, usize>>,
+    places: usize,
+    places_listed: BTreeMap<&'static str, usize>,
     tables: usize,
     incomplete: usize,
 }
@@ -32,6 +34,10 @@ impl Figures {
                 show::their_class(&reading.theirs)
             );
             *self.listed.entry(rule.name()).or_default().entry(pair).or_default() += 1;
+        }
+        self.places += usize::from(reading.place.is_some());
+        if let Some(Verdict::Listed(rule)) = reading.place {
+            *self.places_listed.entry(rule.name()).or_default() += 1;
         }
     }
 
@@ -59,6 +65,10 @@ impl Figures {
             let pairs: Vec<String> =
                 pairs.iter().map(|(pair, count)| format!("{pair} {count}")).collect();
             println!("  {rule}: {}", pairs.join(", "));
+        }
+        println!("places of refusals compared: {}", self.places);
+        for (rule, count) in &self.places_listed {
+            println!("  {rule}: {count}");
         }
         println!("tables {}: {} with a required field missing", self.tables, self.incomplete);
     }

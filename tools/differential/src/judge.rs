@@ -6,6 +6,7 @@ use std::io;
 use crate::answers::{crate_reading, crate_table, our_refusal, our_values, Crate, Ours, Values};
 use crate::compare::{agree, is_nodes_difference, same_values};
 use crate::hex::{to_hex, words_to_hex};
+use crate::places::{is_of_offset, of_crate, offset_in, Place, PLACED};
 use crate::program::Program;
 use crate::requests::{
     answering, paired, read_table, table_exchange, table_requests, text_requests, Exchange, Table,
@@ -33,8 +34,22 @@ pub struct Reading {
     pub translated: Vec<u8>,
     pub wanted: Crate,
     pub verdict: Verdict,
+    /// Of line and column, where they are compared.
+    pub place: Option<Verdict>,
     /// The requests and answers in the form of the program under test.
     pub exchange: Exchange,
+}
+
+impl Reading {
+    /// Whether all that differs is listed.
+    pub fn is_covered(&self) -> bool {
+        self.verdict != Verdict::Different && self.place != Some(Verdict::Different)
+    }
+
+    /// Whether outcome or place differs as this entry says.
+    pub fn shows(&self, rule: Rule) -> bool {
+        self.verdict == Verdict::Listed(rule) || self.place == Some(Verdict::Listed(rule))
+    }
 }
 
 /// A table with both outcomes.
@@ -61,14 +76,15 @@ impl Judge {
         let asked = self.our_readings(setting, texts, &wanted)?;
         let followed = self.follow_tables(setting, &asked)?;
         let outcomes = asked.into_iter().zip(theirs.into_iter().zip(wanted));
-        let rows = outcomes.zip(made.into_iter().zip(followed));
-        let judged = rows.map(|(((ours, exchange), (theirs, wanted)), (made, follows))| {
-            let verdict = match follows {
+        let rows = outcomes.zip(made.into_iter().zip(followed)).zip(texts);
+        let judged = rows.map(|((((ours, exchange), (theirs, wanted)), (made, follows)), text)| {
+            let verdict = match follows && is_of_offset(text, &ours) {
                 true => self.verdict(setting, &ours, &theirs, &wanted, &made),
                 false => Verdict::Different,
             };
+            let place = self.place(text, &ours, &wanted, &made);
             let translated = made.text;
-            Reading { ours, theirs, translated, wanted, verdict, exchange }
+            Reading { ours, theirs, translated, wanted, verdict, place, exchange }
         });
         Ok(judged.collect())
     }
@@ -139,6 +155,32 @@ impl Judge {
             (true, false, Some(rule)) => Verdict::Listed(*rule),
             _ => Verdict::Different,
         }
+    }
+
+    /// Line and column beside those that the crate gives for the translation, where nothing before
+    /// the refusal was translated.
+    fn place(
+        &self,
+        text: &[u8],
+        ours: &Ours,
+        wanted: &Crate,
+        made: &Translation,
+    ) -> Option<Verdict> {
+        let (Ours::Refused { number, at, place }, Crate::Refused(_, message)) = (ours, wanted)
+        else {
+            return None;
+        };
+        let at = offset_in(text, *at)?;
+        if !PLACED.contains(number) || made.first.is_some_and(|first| first < at) {
+            return None;
+        }
+        let given = Place::of_message(message);
+        let (due, rule) = of_crate(text, at, &self.rules);
+        Some(match given == Some(due) {
+            true if due == *place => Verdict::Same,
+            true => Verdict::Listed(rule),
+            false => Verdict::Different,
+        })
     }
 
     fn crate_readings<'a>(

@@ -10,6 +10,7 @@ mod generate;
 mod hex;
 mod judge;
 mod options;
+mod places;
 mod printed;
 mod program;
 mod random;

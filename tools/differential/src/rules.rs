@@ -18,9 +18,11 @@ pub enum Rule {
     SwallowedToken,
     Depth,
     Nodes,
+    Columns,
+    BadTokenPlace,
 }
 
-pub const ALL: [Rule; 16] = [
+pub const ALL: [Rule; 18] = [
     Rule::Octal,
     Rule::NotOctal,
     Rule::RunOn,
@@ -37,6 +39,8 @@ pub const ALL: [Rule; 16] = [
     Rule::SwallowedToken,
     Rule::Depth,
     Rule::Nodes,
+    Rule::Columns,
+    Rule::BadTokenPlace,
 ];
 
 impl Rule {
@@ -59,7 +63,14 @@ impl Rule {
             Rule::SwallowedToken => "swallowed-token",
             Rule::Depth => "depth",
             Rule::Nodes => "nodes",
+            Rule::Columns => "columns",
+            Rule::BadTokenPlace => "bad-token-place",
         }
+    }
+
+    /// Whether the rule is about line and column of a refusal, and not about outcomes.
+    pub fn is_of_places(self) -> bool {
+        matches!(self, Rule::Columns | Rule::BadTokenPlace)
     }
 
     pub fn of_name(name: &str) -> Option<Rule> {

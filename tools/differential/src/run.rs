@@ -8,7 +8,7 @@ use crate::figures::Figures;
 use crate::generate;
 use crate::generate::short::PLACES;
 use crate::generate::text::Odds;
-use crate::judge::{Judge, Reading, Verdict};
+use crate::judge::{Judge, Reading};
 use crate::options::Options;
 use crate::random::Random;
 use crate::requests::{Exchange, Table};
@@ -124,7 +124,7 @@ fn batch_of_texts(
     let readings = judge.texts(setting, texts)?;
     for (text, reading) in texts.iter().zip(&readings) {
         figures.count_text(reading);
-        if reading.verdict == Verdict::Different {
+        if !reading.is_covered() {
             let small = shrink::text(judge, setting, text)?;
             report_text(judge, setting, &small)?;
             return Ok(false);
@@ -137,10 +137,10 @@ fn report_text(judge: &mut Judge, setting: &Setting, text: &[u8]) -> io::Result<
     for reading in judge.texts(setting, &[text.to_vec()])? {
         let Reading { ours, theirs, translated, wanted, exchange, .. } = reading;
         println!("text            {}", show::text(text));
-        println!("ours            {}", show::ours(&ours));
-        println!("crate           {}", show::theirs(&theirs));
+        println!("ours            {}", show::our_place(&ours));
+        println!("crate           {}", show::their_place(&theirs));
         println!("translated      {}", show::text(&translated));
-        println!("crate, of this  {}", show::theirs(&wanted));
+        println!("crate, of this  {}", show::their_place(&wanted));
         print!("{}", setting.lines());
         print_exchange(&exchange);
     }

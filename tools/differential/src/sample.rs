@@ -121,10 +121,10 @@ fn entries_inputs(judge: &mut Judge) -> io::Result<bool> {
         println!("# Entry {} of docs/DIFFERENCES.md.", rule.name());
         for text in entries::texts(rule) {
             for reading in judge.texts(&setting, &[text])? {
-                if reading.verdict != Verdict::Listed(rule) {
+                if !reading.is_covered() || !reading.shows(rule) {
                     return Ok(false);
                 }
-                print_answer(&reading.theirs);
+                println!("# The crate: {}", show::their_part(rule, &reading.theirs));
                 print_exchange(&reading.exchange);
             }
         }
@@ -147,8 +147,7 @@ fn agreed(
         .collect();
     let readings = judge.texts(setting, &texts)?;
     let printings = judge.tables(setting, &tables)?;
-    if readings.iter().any(|r| r.verdict == Verdict::Different) || printings.iter().any(|p| !p.same)
-    {
+    if readings.iter().any(|r| !r.is_covered()) || printings.iter().any(|p| !p.same) {
         return Ok(None);
     }
     print!("{}", setting.lines());

@@ -1,6 +1,8 @@
 //! Inputs and outcomes in words.
 
 use crate::answers::{Crate, Ours, Reason};
+use crate::places::Place;
+use crate::rules::Rule;
 
 const MOST_SHOWN: usize = 100;
 
@@ -26,7 +28,7 @@ pub fn ours(outcome: &Ours) -> String {
     match outcome {
         Ours::Accepted(values) => print(&values.compact),
         Ours::AcceptedAlone => "read".to_owned(),
-        Ours::Refused { number, at } => format!("refused {number} at {at}"),
+        Ours::Refused { number, at, .. } => format!("refused {number} at {at}"),
         Ours::Broken(answer) => format!("broken: {answer}"),
     }
 }
@@ -39,6 +41,42 @@ pub fn theirs(outcome: &Crate) -> String {
             let words = message.splitn(3, ':').nth(2).unwrap_or(message).trim();
             format!("refused ({})", text(words.as_bytes()))
         }
+    }
+}
+
+/// An outcome, with `LINE:COLUMN` of a refusal.
+pub fn our_place(outcome: &Ours) -> String {
+    match outcome {
+        Ours::Refused { place: Place { line, column }, .. } => {
+            format!("{}, {line}:{column}", ours(outcome))
+        }
+        _ => ours(outcome),
+    }
+}
+
+pub fn their_place(outcome: &Crate) -> String {
+    let place = match outcome {
+        Crate::Refused(_, message) => Place::of_message(message),
+        Crate::Accepted(_) => None,
+    };
+    match place {
+        Some(Place { line, column }) => format!("{}, {line}:{column}", theirs(outcome)),
+        None => theirs(outcome),
+    }
+}
+
+/// What an entry says of an outcome: its place only where the entry is about places.
+pub fn our_part(rule: Rule, outcome: &Ours) -> String {
+    match rule.is_of_places() {
+        true => our_place(outcome),
+        false => ours(outcome),
+    }
+}
+
+pub fn their_part(rule: Rule, outcome: &Crate) -> String {
+    match rule.is_of_places() {
+        true => their_place(outcome),
+        false => theirs(outcome),
     }
 }
 

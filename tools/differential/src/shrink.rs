@@ -2,7 +2,7 @@
 
 use std::io;
 
-use crate::judge::{Judge, Verdict};
+use crate::judge::Judge;
 use crate::requests::Table;
 use crate::setting::Setting;
 
@@ -54,7 +54,7 @@ fn first_different(
 ) -> io::Result<Option<Vec<char>>> {
     let bytes: Vec<Vec<u8>> = texts.iter().map(|t| String::from_iter(t).into_bytes()).collect();
     let readings = judge.texts(setting, &bytes)?;
-    let found = readings.iter().position(|r| r.verdict == Verdict::Different);
+    let found = readings.iter().position(|r| !r.is_covered());
     Ok(found.map(|i| texts[i].clone()))
 }
 

@@ -27,6 +27,8 @@ pub struct Translation {
     pub text: Vec<u8>,
     /// The rules that changed something, in text order.
     pub rules: Vec<Rule>,
+    /// Where the first token begins that was changed.
+    pub first: Option<usize>,
 }
 
 /// What an open brace holds.
@@ -47,6 +49,7 @@ struct Translator<'a> {
     text: &'a [u8],
     out: Vec<u8>,
     used: Vec<Rule>,
+    first: Option<usize>,
     scopes: Vec<Scope>,
     last_name: Option<String>,
     after_string: bool,
@@ -67,12 +70,13 @@ pub fn translate(schema: &Schema, root: usize, text: &[u8], rules: &Rules) -> Tr
         text,
         out: Vec::new(),
         used: Vec::new(),
+        first: None,
         scopes: vec![Scope::Message(root)],
         last_name: None,
         after_string: false,
     };
     translator.all();
-    Translation { text: translator.out, rules: translator.used }
+    Translation { text: translator.out, rules: translator.used, first: translator.first }
 }
 
 impl Translator<'_> {
@@ -85,7 +89,11 @@ impl Translator<'_> {
                 return;
             }
             let (token, end) = token_at(self.text, start);
-            match self.token(&token, start, end) {
+            let next = self.token(&token, start, end);
+            if !self.used.is_empty() {
+                self.first.get_or_insert(start);
+            }
+            match next {
                 Next::GoOn => at = end,
                 Next::Stop => return,
                 Next::CopyRest => {
@@ -271,6 +279,15 @@ mod tests {
         assert_eq!(translated("i: 012 l: 08", &[Rule::Octal]), "i: 012 l: \x01");
         assert_eq!(translated("i: 012 l: 08 é", &[Rule::NotOctal]), "i: 10 l: 08 é");
         assert_eq!(translated("y: '\\x4\\18'", &[Rule::HexEscape]), "y: '\\x4\\0018'");
+    }
+
+    #[test]
+    fn the_first_change_is_told() {
+        let rules = Rules::all_but(Vec::new());
+        let first = |text: &str| translate(&schema_x(), 0, text.as_bytes(), &rules).first;
+        assert_eq!(first("i: 1 l: 2"), None);
+        assert_eq!(first("i: 1 inf: 012 l: 08"), Some(5));
+        assert_eq!(first("s: 'a' y: '\\x4'"), Some(10));
     }
 
     #[test]

@@ -1,4 +1,4 @@
-//! A model of document 01, read plainly: requests of the line protocol on standard input,
+//! A model of documents 01 and 02 (§1), read plainly: requests of the line protocol on standard input,
 //! answers on standard output.
 
 mod carry;

@@ -27,19 +27,38 @@ pub fn read(
     if text.len() > LONGEST_TEXT {
         return refuse(TEXT_TOO_LONG, 0);
     }
-    let reading = parse(schema, root, text)?;
-    let needed = reading.nodes.len();
-    if needed as u64 > (words / WORDS_PER_NODE as u64).min(MOST_NODES as u64) {
-        return refuse(NODES_SHORT, needed);
+    let reading = parse(schema, root, text).map_err(|fault| fault.in_text(text))?;
+    let (nodes, pool) = (reading.nodes.len() as u64, reading.pool.len() as u64);
+    if nodes > (words / WORDS_PER_NODE as u64).min(MOST_NODES as u64) {
+        return refuse(NODES_SHORT, nodes);
     }
-    if reading.pool.len() as u64 > bytes {
-        return refuse(POOL_SHORT, reading.pool.len());
+    if pool > bytes {
+        return refuse(POOL_SHORT, pool);
     }
     Ok(reading)
 }
 
+/// A fault in the text: a refusal 4 to 12, and the offset of the byte that it stands at.
+struct Fault {
+    number: u32,
+    at: usize,
+}
+
+impl Fault {
+    fn in_text(self, text: &[u8]) -> Refusal {
+        Refusal {
+            number: self.number,
+            place: Place::in_text(text, self.at),
+        }
+    }
+}
+
+fn fault<T>(number: u32, at: usize) -> Result<T, Fault> {
+    Err(Fault { number, at })
+}
+
 /// The text as the root message's body.
-fn parse(schema: &Schema, root: usize, text: &[u8]) -> Result<Reading, Refusal> {
+fn parse(schema: &Schema, root: usize, text: &[u8]) -> Result<Reading, Fault> {
     let mut parser = Parser {
         schema,
         lexer: Lexer::new(text),
@@ -110,33 +129,33 @@ impl<'t> Parser<'t> {
     // ---- tokens ------------------------------------------------------------------------
 
     /// The token that is needed now; a bad one is refused 4 whatever is expected (T10).
-    fn next(&mut self) -> Result<Placed<'t>, Refusal> {
+    fn next(&mut self) -> Result<Placed<'t>, Fault> {
         let placed = self.lexer.token();
         match placed.token {
-            Token::Bad => refuse(BAD_TOKEN, placed.at),
+            Token::Bad => fault(BAD_TOKEN, placed.at),
             _ => Ok(placed),
         }
     }
 
     /// One of these symbols, with its place.
-    fn symbol(&mut self, allowed: &[u8]) -> Result<(u8, usize), Refusal> {
+    fn symbol(&mut self, allowed: &[u8]) -> Result<(u8, usize), Fault> {
         let placed = self.next()?;
         match placed.token {
             Token::Symbol(b) if allowed.contains(&b) => Ok((b, placed.at)),
-            _ => refuse(OTHER_EXPECTED, placed.at),
+            _ => fault(OTHER_EXPECTED, placed.at),
         }
     }
 
     // ---- messages and entries ----------------------------------------------------------
 
     /// Fields until the closer, or the end for the root. `depth` is this message's own.
-    fn read_body(&mut self, message: usize, closer: Token, depth: usize) -> Result<(), Refusal> {
+    fn read_body(&mut self, message: usize, closer: Token, depth: usize) -> Result<(), Fault> {
         loop {
             let placed = self.next()?;
             match placed.token {
                 token if token == closer => return Ok(()),
                 Token::Name(name) => self.merge_field(message, name, placed.at, depth)?,
-                _ => return refuse(OTHER_EXPECTED, placed.at),
+                _ => return fault(OTHER_EXPECTED, placed.at),
             }
         }
     }
@@ -148,10 +167,10 @@ impl<'t> Parser<'t> {
         name: &[u8],
         at: usize,
         depth: usize,
-    ) -> Result<(), Refusal> {
+    ) -> Result<(), Fault> {
         let schema = self.schema;
         let Some(index) = schema.field_named(message, name) else {
-            return refuse(UNKNOWN_FIELD, at);
+            return fault(UNKNOWN_FIELD, at);
         };
         let field = &schema.fields[index];
         if field.label == MAP {
@@ -167,7 +186,7 @@ impl<'t> Parser<'t> {
 
     /// What follows a name: for a scalar `:` and the value, for a message opener, body and closer.
     /// `depth` is that of the message or entry the name stands in.
-    fn read_value_of_field(&mut self, slot: Slot, depth: usize) -> Result<(), Refusal> {
+    fn read_value_of_field(&mut self, slot: Slot, depth: usize) -> Result<(), Fault> {
         if slot.value_type == MESSAGE {
             return self.read_message(slot, depth + 1);
         }
@@ -176,10 +195,10 @@ impl<'t> Parser<'t> {
     }
 
     /// `{` body `}` or `<` body `>`; depth is judged once the opener is there (D1).
-    fn read_message(&mut self, slot: Slot, depth: usize) -> Result<(), Refusal> {
+    fn read_message(&mut self, slot: Slot, depth: usize) -> Result<(), Fault> {
         let (opener, at) = self.symbol(b"{<")?;
         if depth > DEEPEST {
-            return refuse(TOO_DEEP, at);
+            return fault(TOO_DEEP, at);
         }
         let closer = if opener == b'{' { b'}' } else { b'>' };
         let node = self.open(MESSAGE, slot.field);
@@ -189,10 +208,10 @@ impl<'t> Parser<'t> {
     }
 
     /// A map's entry: `{` only, then `key` and `value`, each at most once, in either order.
-    fn read_entry(&mut self, index: usize, depth: usize) -> Result<(), Refusal> {
+    fn read_entry(&mut self, index: usize, depth: usize) -> Result<(), Fault> {
         let (_, at) = self.symbol(b"{")?;
         if depth > DEEPEST {
-            return refuse(TOO_DEEP, at);
+            return fault(TOO_DEEP, at);
         }
         let field = &self.schema.fields[index];
         let slots = [
@@ -214,7 +233,7 @@ impl<'t> Parser<'t> {
     }
 
     /// The inside of an entry and its closer; then what is missing is appended, key first.
-    fn read_key_and_value(&mut self, slots: [Slot; 2], depth: usize) -> Result<(), Refusal> {
+    fn read_key_and_value(&mut self, slots: [Slot; 2], depth: usize) -> Result<(), Fault> {
         let mut seen = [false; 2];
         let closer = loop {
             let placed = self.next()?;
@@ -222,11 +241,11 @@ impl<'t> Parser<'t> {
                 Token::Symbol(b'}') => break placed.at,
                 Token::Name(b"key") => 0,
                 Token::Name(b"value") => 1,
-                Token::Name(_) => return refuse(UNKNOWN_FIELD, placed.at),
-                _ => return refuse(OTHER_EXPECTED, placed.at),
+                Token::Name(_) => return fault(UNKNOWN_FIELD, placed.at),
+                _ => return fault(OTHER_EXPECTED, placed.at),
             };
             if seen[which] {
-                return refuse(TWICE, placed.at);
+                return fault(TWICE, placed.at);
             }
             seen[which] = true;
             self.read_value_of_field(slots[which], depth)?;
@@ -241,14 +260,14 @@ impl<'t> Parser<'t> {
 
     /// 0, false, empty, the enum's first value, an empty message. A default message lies one
     /// below the entry, and one too deep is refused at the entry's closer.
-    fn append_default(&mut self, slot: Slot, depth: usize, closer: usize) -> Result<(), Refusal> {
+    fn append_default(&mut self, slot: Slot, depth: usize, closer: usize) -> Result<(), Fault> {
         match slot.value_type {
             STRING | BYTES => self.run_of_pool(slot, b""),
             ENUM => {
                 let first = self.schema.values_of(slot.reference)[0].number;
                 self.leaf(slot, i64::from(first) as u64);
             }
-            MESSAGE if depth + 1 > DEEPEST => return refuse(TOO_DEEP, closer),
+            MESSAGE if depth + 1 > DEEPEST => return fault(TOO_DEEP, closer),
             MESSAGE => {
                 let node = self.open(MESSAGE, slot.field);
                 self.close(node);
@@ -260,7 +279,7 @@ impl<'t> Parser<'t> {
 
     // ---- scalars -----------------------------------------------------------------------
 
-    fn read_scalar(&mut self, slot: Slot) -> Result<(), Refusal> {
+    fn read_scalar(&mut self, slot: Slot) -> Result<(), Fault> {
         match slot.value_type {
             I32 => self.read_signed(slot, 1 << 31),
             I64 => self.read_signed(slot, 1 << 63),
@@ -274,7 +293,7 @@ impl<'t> Parser<'t> {
 
     /// An integer, perhaps after `-` and separators. `least` is the least value without its
     /// minus, one more than the greatest value.
-    fn read_signed(&mut self, slot: Slot, least: u64) -> Result<(), Refusal> {
+    fn read_signed(&mut self, slot: Slot, least: u64) -> Result<(), Fault> {
         let mut placed = self.next()?;
         let minus = placed.token == Token::Symbol(b'-');
         if minus {
@@ -286,7 +305,7 @@ impl<'t> Parser<'t> {
         Ok(())
     }
 
-    fn read_unsigned(&mut self, slot: Slot, most: u64) -> Result<(), Refusal> {
+    fn read_unsigned(&mut self, slot: Slot, most: u64) -> Result<(), Fault> {
         let placed = self.next()?;
         let value = integer(placed, most)?;
         self.leaf(slot, value);
@@ -294,52 +313,52 @@ impl<'t> Parser<'t> {
     }
 
     /// `true` or `false`; any other good token, or the end, is refused 10.
-    fn read_bool(&mut self, slot: Slot) -> Result<(), Refusal> {
+    fn read_bool(&mut self, slot: Slot) -> Result<(), Fault> {
         let placed = self.next()?;
         let value = match placed.token {
             Token::Name(b"true") => 1,
             Token::Name(b"false") => 0,
-            _ => return refuse(NOT_BOOL, placed.at),
+            _ => return fault(NOT_BOOL, placed.at),
         };
         self.leaf(slot, value);
         Ok(())
     }
 
     /// An enum is a name; its number is sign-extended.
-    fn read_enum(&mut self, slot: Slot) -> Result<(), Refusal> {
+    fn read_enum(&mut self, slot: Slot) -> Result<(), Fault> {
         let placed = self.next()?;
         let Token::Name(name) = placed.token else {
-            return refuse(OTHER_EXPECTED, placed.at);
+            return fault(OTHER_EXPECTED, placed.at);
         };
         let values = self.schema.values_of(slot.reference);
         let Some(value) = values.iter().find(|v| v.name == name) else {
-            return refuse(UNKNOWN_ENUM_VALUE, placed.at);
+            return fault(UNKNOWN_ENUM_VALUE, placed.at);
         };
         self.leaf(slot, i64::from(value.number) as u64);
         Ok(())
     }
 
     /// A string token; a string field's decoded bytes are UTF-8, a bytes field's may be any.
-    fn read_string(&mut self, slot: Slot) -> Result<(), Refusal> {
+    fn read_string(&mut self, slot: Slot) -> Result<(), Fault> {
         let placed = self.next()?;
         let Token::Text(raw) = placed.token else {
-            return refuse(OTHER_EXPECTED, placed.at);
+            return fault(OTHER_EXPECTED, placed.at);
         };
         match decode(raw) {
             Some(bytes) if slot.value_type == BYTES || is_utf8(&bytes) => {
                 self.run_of_pool(slot, &bytes);
                 Ok(())
             }
-            _ => refuse(BAD_STRING, placed.at),
+            _ => fault(BAD_STRING, placed.at),
         }
     }
 }
 
 /// An integer token of at most this value; 9 is given at the digits, not at a minus.
-fn integer(placed: Placed, most: u64) -> Result<u64, Refusal> {
+fn integer(placed: Placed, most: u64) -> Result<u64, Fault> {
     match placed.token {
         Token::Integer(Some(value)) if value <= most => Ok(value),
-        Token::Integer(_) => refuse(OVERFLOW, placed.at),
-        _ => refuse(OTHER_EXPECTED, placed.at),
+        Token::Integer(_) => fault(OVERFLOW, placed.at),
+        _ => fault(OTHER_EXPECTED, placed.at),
     }
 }

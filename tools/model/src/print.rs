@@ -1,7 +1,7 @@
 //! Compact and pretty print of a table's live values (refusal 16).
 
 use crate::live::live_children;
-use crate::refusal::{Refusal, PRINT_SHORT};
+use crate::refusal::{refuse, Refusal, PRINT_SHORT};
 use crate::schema::*;
 use crate::strings::printed;
 use crate::table::{valid, Table, ENTRY, KEY, UNKNOWN_BYTES, UNKNOWN_U32, UNKNOWN_U64, VALUE};
@@ -32,10 +32,7 @@ pub fn print(
     };
     printer.fields_of(0, 0);
     if printer.length > room {
-        return Err(Refusal {
-            number: PRINT_SHORT,
-            at: printer.length,
-        });
+        return refuse(PRINT_SHORT, printer.length);
     }
     Ok(printer.text)
 }

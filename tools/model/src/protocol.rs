@@ -3,7 +3,7 @@
 use crate::carry::{carry, Carried, Load, Rooms};
 use crate::parse::{read, Reading};
 use crate::print::{print, Style};
-use crate::refusal::Refusal;
+use crate::refusal::{Place, Refusal};
 use crate::required::required;
 use crate::schema::{accept, Schema};
 use crate::table::access;
@@ -148,8 +148,14 @@ fn words_of(reading: &Reading) -> Vec<u32> {
     reading.nodes.iter().flat_map(|n| n.words()).collect()
 }
 
+/// Number, offset, line and column.
 fn refused(letter: &str, refusal: Refusal) -> String {
-    format!("{letter} {} {}", refusal.number, refusal.at)
+    let Place {
+        offset,
+        line,
+        column,
+    } = refusal.place;
+    format!("{letter} {} {offset} {line} {column}", refusal.number)
 }
 
 /// Words on a line are separated by one space; a request has exactly its words.

@@ -12,7 +12,7 @@ use Rattle.definitions.specs.Reading.{field, under}
 use Rattle.laws.proofs.Reach.{reach}
 use Rattle.leaves.specs.Answers.{standing}
 use Rattle.leaves.proofs.Returns.{no-answers, answers-by, answers-from}
-use Rattle.leaves.proofs.Steps.{scanned, scanned-bad, bad-is, reached, nothing-is, found-is}
+use Rattle.leaves.proofs.Steps.{fair-located, scanned-line, scanned, scanned-bad, bad-is, reached, nothing-is, found-is}
 use Rattle.entries.proofs.Wants.{want-fits, want-field, found-inside}
 use Rattle.bodies.proofs.Turns.{Rest, begins, ends, rest-bad, rest-closed, rest-other, rest-unknown, rest-twice, falls as name-falls, fair-after, field-no, further, next-inside, goes-on, stands, again-at}
 use Rattle.bodies.proofs.Nested.{closed-at, nests-high, field-plain, field-bad, field-other, field-deep, child-falls, child-fair, nested-no, nested-node, nested-put}
@@ -28,17 +28,17 @@ use Rattle.bodies.proofs.+merge_field+read_message+read_value_of_type.L
 use Rattle.bodies.proofs.read_value_of_type.Reads as read-value-of-type
 use Rattle.bodies.proofs.read_value_of_type.Kinds as read-value-of-type-kinds
 use Rattle.bodies.proofs.+merge_field+read_message+read_value_of_type.Lts-read_value_of_type as read-value-of-type-lts
-use Rattle.lexer.proofs.tokens.Cursor.next_from.Reads as next-from-reads
-use Rattle.leaves.proofs.bad.Reads as bad-reads
-use Rattle.entries.proofs.close_body.Reads as close-body-reads
 use Rattle.bodies.proofs.closer_of.Reads as closer-of-reads
+use Rattle.entries.proofs.close_body.Reads as close-body-reads
 use Rattle.entries.proofs.find_in.Reads as find-in-reads
 use Rattle.entries.proofs.has_key.Reads as has-key-reads
 use Rattle.entries.proofs.has_value.Reads as has-value-reads
 use Rattle.entries.proofs.is_again.Reads as is-again-reads
-use Rattle.leaves.proofs.put_body.Reads as put-body-reads
-use Rattle.scalars.proofs.read_colon.Reads as read-colon-reads
 use Rattle.entries.proofs.want_in.Reads as want-in-reads
+use Rattle.leaves.proofs.bad.Reads as bad-reads
+use Rattle.leaves.proofs.put_body.Reads as put-body-reads
+use Rattle.lexer.proofs.tokens.Cursor.next_from.Reads as next-from-reads
+use Rattle.scalars.proofs.read_colon.Reads as read-colon-reads
 use Rattle.bodies.proofs.+merge_field+read_message+read_value_of_type.{statement}
 use Rattle.bodies.proofs.+merge_field+read_message+read_value_of_type.Tie.{close}
 
@@ -113,7 +113,7 @@ merge-field-same-length : (t : ℕ) → merge-field-lts.Need-same-length (
   read-value-of-type-below t,
   read-value-of-type.Post,
 ) (merge-field-at t) merge-field.Post
-merge-field-same-length t c = c .before .before .before .before .read-value-of-type .kept .1 .1 .1 .1 .1 .1 .1 .1 .0
+merge-field-same-length t c = c .before .before .before .before .read-value-of-type .kept .1 .1 .1 .1 .1 .1 .1 .1 .1 .0
 
 merge-field-same-length-2 : (t : ℕ) → merge-field-lts.Need-same-length-2 (
   want-in-reads.Asked,
@@ -121,7 +121,7 @@ merge-field-same-length-2 : (t : ℕ) → merge-field-lts.Need-same-length-2 (
   read-value-of-type-below t,
   read-value-of-type.Post,
 ) (merge-field-at t) merge-field.Post
-merge-field-same-length-2 t c = c .before .before .before .before .read-value-of-type .kept .1 .1 .1 .1 .1 .1 .1 .1 .1 .0
+merge-field-same-length-2 t c = c .before .before .before .before .read-value-of-type .kept .1 .1 .1 .1 .1 .1 .1 .1 .1 .1 .0
 
 merge-field-returns : (t : ℕ) → merge-field-lts.Need-returns (
   want-in-reads.Asked,
@@ -132,10 +132,10 @@ merge-field-returns : (t : ℕ) → merge-field-lts.Need-returns (
 merge-field-returns t c = answers-by _ _ _ _ _ _ _ _ (ap (λ (v : Want). field (under (c .before .before .before .before .before .before .before .before .before .before .before .before .args .left) (now (c .before .before .before .before .before .before .before .before .before .before .before .before .args .image)) (now (c .before .before .before .before .before .before .before .before .before .before .before .before .args .s))) (now (c .before .before .before .before .before .before .before .before .before .before .before .before .args .image)) (now (c .before .before .before .before .before .before .before .before .before .before .before .before .args .s)) v (c .before .before .before .before .before .before .before .before .before .before .before .before .args .q)) (sym (c .before .before .before .before .before .before .before .want-in .ensures))) (c .before .before .before .before .read-value-of-type .ensures)
 
 abbrev read-message-Inv-loop : read-message-lts.InvT-loop
-read-message-Inv-loop s image layout table escape w closer left nodes₀ pool₀ here₀ key₀ value₀ guess₀ nodes pool here key value guess = Rest left image s w closer here₀ (standing here key value) nodes₀ nodes pool₀ pool
+read-message-Inv-loop s image layout table esc w closer left nodes₀ pool₀ q₀ l₀ key₀ value₀ guess₀ nodes pool q l key value guess = Rest left image s w closer q₀ (standing q key value) l nodes₀ nodes pool₀ pool
 
 abbrev read-message-μ-loop : read-message-lts.MeasureT-loop
-read-message-μ-loop s image layout table escape w closer left nodes₀ pool₀ here₀ key₀ value₀ guess₀ nodes pool here key value guess = length s - here .at
+read-message-μ-loop s image layout table esc w closer left nodes₀ pool₀ q₀ l₀ key₀ value₀ guess₀ nodes pool q l key value guess = length s - q .at
 
 read-message-loop-holds : (t : ℕ) → read-message-lts.Need-loop-holds (
   next-from-reads.Asked,
@@ -175,7 +175,7 @@ read-message-next-from-requires : (t : ℕ) → read-message-lts.Need-next-from-
   has-value-reads.Asked,
   has-value-reads.Learnt,
 ) (read-message-at t) read-message.Post read-message-Inv-loop read-message-μ-loop
-read-message-next-from-requires t c κs = c .before .before .before .before .before .pre .1 .0 .0
+read-message-next-from-requires t c κs = (c .before .before .before .before .before .pre .1 .0 .0, fair-located _ _ (c .loop .inv .fair))
 
 read-message-enum-known-st : (t : ℕ) → read-message-lts.Need-enum-known-st (
   next-from-reads.Asked,
@@ -295,7 +295,7 @@ read-message-returns : (t : ℕ) → read-message-lts.Need-returns (
   has-value-reads.Asked,
   has-value-reads.Learnt,
 ) (read-message-at t) read-message.Post read-message-Inv-loop read-message-μ-loop
-read-message-returns t c = ends _ _ _ (c .before .before .before .before .before .before .before .before .before .args .w) _ _ _ _ _ _ _ _ _ _ (c .before .before .before .before .loop .inv) (no-answers _ _ _ _ _ _ _ _ _ (rest-bad _ _ _ (c .before .before .before .before .before .before .before .before .before .args .w) _ _ (c .before .before .before .before .loop .inv .fair .inside) _ (scanned-bad _ _ _ (c .before .before .before .next-from .ensures) (c .before .enum-told .given .1))) (bad-is _ _ _ (c .before .enum-told .given .1) (c .bad .ensures)))
+read-message-returns t c = ends _ _ _ (c .before .before .before .before .before .before .before .before .before .args .w) _ _ _ _ _ _ _ _ _ _ (c .before .before .before .before .loop .inv) (no-answers _ _ _ _ _ _ _ _ _ (rest-bad _ _ _ (c .before .before .before .before .before .before .before .before .before .args .w) _ _ (c .before .before .before .before .loop .inv .fair .inside) _ (scanned-bad _ _ _ _ (c .before .before .before .next-from .ensures) (c .before .enum-told .given .1))) (bad-is _ _ _ (c .before .enum-told .given .1) (c .bad .ensures)))
 
 read-message-close-body-requires : (t : ℕ) → read-message-lts.Need-close-body-requires (
   next-from-reads.Asked,
@@ -315,7 +315,7 @@ read-message-close-body-requires : (t : ℕ) → read-message-lts.Need-close-bod
   has-value-reads.Asked,
   has-value-reads.Learnt,
 ) (read-message-at t) read-message.Post read-message-Inv-loop read-message-μ-loop
-read-message-close-body-requires t c κs = (c .before .before .before .before .before .before .before .before .before .before .before .before .before .pre .1 .1, c .before .before .before .before .before .before .before .before .before .before .before .before .before .pre .1 .3, omega (arith, c .before .before .before .before .before .before .before .before .loop .inv .fair .nodes, c .before .before .before .before .before .before .before .before .loop .inv .fair .inside, c .before .before .before .before .before .before .before .before .loop .inv .fair .short), omega (arith, c .before .before .before .before .before .before .before .before .loop .inv .fair .bytes, c .before .before .before .before .before .before .before .before .loop .inv .fair .inside, c .before .before .before .before .before .before .before .before .loop .inv .fair .short))
+read-message-close-body-requires t c κs = (c .before .before .before .before .before .before .before .before .before .before .before .before .before .before .pre .1 .1, c .before .before .before .before .before .before .before .before .before .before .before .before .before .before .pre .1 .3, omega (arith, c .before .before .before .before .before .before .before .before .before .loop .inv .fair .nodes, c .before .before .before .before .before .before .before .before .before .loop .inv .fair .inside, c .before .before .before .before .before .before .before .before .before .loop .inv .fair .short), omega (arith, c .before .before .before .before .before .before .before .before .before .loop .inv .fair .bytes, c .before .before .before .before .before .before .before .before .before .loop .inv .fair .inside, c .before .before .before .before .before .before .before .before .before .loop .inv .fair .short))
 
 read-message-same-length-3 : (t : ℕ) → read-message-lts.Need-same-length-3 (
   next-from-reads.Asked,
@@ -335,7 +335,7 @@ read-message-same-length-3 : (t : ℕ) → read-message-lts.Need-same-length-3 (
   has-value-reads.Asked,
   has-value-reads.Learnt,
 ) (read-message-at t) read-message.Post read-message-Inv-loop read-message-μ-loop
-read-message-same-length-3 t c = c .before .before .close-body .kept .1 .1 .1 .1 .1 .1 .1 .1 .0 ∙ c .before .before .before .before .before .before .before .before .before .before .before .loop .inv .long
+read-message-same-length-3 t c = c .before .before .close-body .kept .1 .1 .1 .1 .1 .1 .1 .1 .1 .0 ∙ c .before .before .before .before .before .before .before .before .before .before .before .before .loop .inv .long
 
 read-message-same-length-4 : (t : ℕ) → read-message-lts.Need-same-length-4 (
   next-from-reads.Asked,
@@ -355,7 +355,7 @@ read-message-same-length-4 : (t : ℕ) → read-message-lts.Need-same-length-4 (
   has-value-reads.Asked,
   has-value-reads.Learnt,
 ) (read-message-at t) read-message.Post read-message-Inv-loop read-message-μ-loop
-read-message-same-length-4 t c = c .before .before .before .before .before .before .before .before .before .before .before .loop .inv .wide
+read-message-same-length-4 t c = c .before .before .before .before .before .before .before .before .before .before .before .before .loop .inv .wide
 
 read-message-returns-2 : (t : ℕ) → read-message-lts.Need-returns-2 (
   next-from-reads.Asked,
@@ -375,7 +375,7 @@ read-message-returns-2 : (t : ℕ) → read-message-lts.Need-returns-2 (
   has-value-reads.Asked,
   has-value-reads.Learnt,
 ) (read-message-at t) read-message.Post read-message-Inv-loop read-message-μ-loop
-read-message-returns-2 t c = ends _ _ _ (c .before .before .before .before .before .before .before .before .before .before .before .before .before .before .before .before .args .w) _ _ _ _ _ _ _ _ _ _ (c .before .before .before .before .before .before .before .before .before .before .before .loop .inv) (answers-by _ _ _ _ _ _ _ _ (rest-closed _ _ _ (c .before .before .before .before .before .before .before .before .before .before .before .before .before .before .before .before .args .w) _ _ (c .before .before .before .before .before .before .before .before .before .before .before .loop .inv .fair .inside) _ _ (scanned _ _ _ _ (c .before .before .before .before .before .before .before .before .before .before .next-from .ensures) (c .before .before .before .before .before .before .before .before .st .given .1)) (c .before .before .before .before .if1 .taken) ∙ closed-at _ _ _ _ _ _ _ _) (answers-from _ _ _ _ _ _ _ _ refl refl (c .before .before .close-body .ensures _)))
+read-message-returns-2 t c = ends _ _ _ (c .before .before .before .before .before .before .before .before .before .before .before .before .before .before .before .before .before .args .w) _ _ _ _ _ _ _ _ _ _ (c .before .before .before .before .before .before .before .before .before .before .before .before .loop .inv) (answers-by _ _ _ _ _ _ _ _ (rest-closed _ _ _ (c .before .before .before .before .before .before .before .before .before .before .before .before .before .before .before .before .before .args .w) _ _ (c .before .before .before .before .before .before .before .before .before .before .before .before .loop .inv .fair .inside) _ _ (scanned _ _ _ _ _ (c .before .before .before .before .before .before .before .before .before .before .before .next-from .ensures) (c .before .before .before .before .before .before .before .before .before .st .given .1)) (c .before .before .before .before .if1 .taken) ∙ closed-at _ _ _ _ _ _ _ _) (answers-from _ _ _ _ _ _ _ _ refl refl (c .before .before .close-body .ensures _ (scanned-line _ _ _ _ _ (c .before .before .before .before .before .before .before .before .before .before .before .next-from .ensures) (c .before .before .before .before .before .before .before .before .before .st .given .1)) _)))
 
 read-message-same-length-5 : (t : ℕ) → read-message-lts.Need-same-length-5 (
   next-from-reads.Asked,
@@ -395,7 +395,7 @@ read-message-same-length-5 : (t : ℕ) → read-message-lts.Need-same-length-5 (
   has-value-reads.Asked,
   has-value-reads.Learnt,
 ) (read-message-at t) read-message.Post read-message-Inv-loop read-message-μ-loop
-read-message-same-length-5 t c = c .before .before .before .before .before .before .before .before .before .loop .inv .long
+read-message-same-length-5 t c = c .before .before .before .before .before .before .before .before .before .before .loop .inv .long
 
 read-message-same-length-6 : (t : ℕ) → read-message-lts.Need-same-length-6 (
   next-from-reads.Asked,
@@ -415,7 +415,7 @@ read-message-same-length-6 : (t : ℕ) → read-message-lts.Need-same-length-6 (
   has-value-reads.Asked,
   has-value-reads.Learnt,
 ) (read-message-at t) read-message.Post read-message-Inv-loop read-message-μ-loop
-read-message-same-length-6 t c = c .before .before .before .before .before .before .before .before .before .loop .inv .wide
+read-message-same-length-6 t c = c .before .before .before .before .before .before .before .before .before .before .loop .inv .wide
 
 read-message-returns-3 : (t : ℕ) → read-message-lts.Need-returns-3 (
   next-from-reads.Asked,
@@ -435,7 +435,7 @@ read-message-returns-3 : (t : ℕ) → read-message-lts.Need-returns-3 (
   has-value-reads.Asked,
   has-value-reads.Learnt,
 ) (read-message-at t) read-message.Post read-message-Inv-loop read-message-μ-loop
-read-message-returns-3 t c = ends _ _ _ (c .before .before .before .before .before .before .before .before .before .before .before .before .before .before .args .w) _ _ _ _ _ _ _ _ _ _ (c .before .before .before .before .before .before .before .before .before .loop .inv) (no-answers _ _ _ _ _ _ _ _ _ (rest-other _ _ _ (c .before .before .before .before .before .before .before .before .before .before .before .before .before .before .args .w) _ _ (c .before .before .before .before .before .before .before .before .before .loop .inv .fair .inside) _ _ (scanned _ _ _ _ (c .before .before .before .before .before .before .before .before .next-from .ensures) (c .before .before .before .before .before .before .st .given .1)) (c .before .before .if1 .left) (c .if2 .taken)) refl)
+read-message-returns-3 t c = ends _ _ _ (c .before .before .before .before .before .before .before .before .before .before .before .before .before .before .before .args .w) _ _ _ _ _ _ _ _ _ _ (c .before .before .before .before .before .before .before .before .before .before .loop .inv) (no-answers _ _ _ _ _ _ _ _ _ (rest-other _ _ _ (c .before .before .before .before .before .before .before .before .before .before .before .before .before .before .before .args .w) _ _ (c .before .before .before .before .before .before .before .before .before .before .loop .inv .fair .inside) _ _ (scanned _ _ _ _ _ (c .before .before .before .before .before .before .before .before .before .next-from .ensures) (c .before .before .before .before .before .before .before .st .given .1)) (c .before .before .if1 .left) (c .if2 .taken)) refl)
 
 read-message-sub-find-in : (t : ℕ) → read-message-lts.Need-sub-find-in (
   next-from-reads.Asked,
@@ -455,7 +455,7 @@ read-message-sub-find-in : (t : ℕ) → read-message-lts.Need-sub-find-in (
   has-value-reads.Asked,
   has-value-reads.Learnt,
 ) (read-message-at t) read-message.Post read-message-Inv-loop read-message-μ-loop
-read-message-sub-find-in t c = let z = reached _ _ _ _ (c .before .before .before .before .before .before .before .before .before .loop .inv .fair .inside) (scanned _ _ _ _ (c .before .before .before .before .before .before .before .before .next-from .ensures) (c .before .before .before .before .before .before .st .given .1)) in omega (arith, z .forward, z .inside)
+read-message-sub-find-in t c = let z = reached _ _ _ _ (c .before .before .before .before .before .before .before .before .before .before .loop .inv .fair .inside) (scanned _ _ _ _ _ (c .before .before .before .before .before .before .before .before .before .next-from .ensures) (c .before .before .before .before .before .before .before .st .given .1)) in omega (arith, z .forward, z .inside)
 
 read-message-part-find-in-start : (t : ℕ) → read-message-lts.Need-part-find-in-start (
   next-from-reads.Asked,
@@ -475,7 +475,7 @@ read-message-part-find-in-start : (t : ℕ) → read-message-lts.Need-part-find-
   has-value-reads.Asked,
   has-value-reads.Learnt,
 ) (read-message-at t) read-message.Post read-message-Inv-loop read-message-μ-loop
-read-message-part-find-in-start t c = let z = reached _ _ _ _ (c .before .before .before .before .before .before .before .before .before .loop .inv .fair .inside) (scanned _ _ _ _ (c .before .before .before .before .before .before .before .before .next-from .ensures) (c .before .before .before .before .before .before .st .given .1)) in omega (arith, z .forward, z .inside)
+read-message-part-find-in-start t c = let z = reached _ _ _ _ (c .before .before .before .before .before .before .before .before .before .before .loop .inv .fair .inside) (scanned _ _ _ _ _ (c .before .before .before .before .before .before .before .before .before .next-from .ensures) (c .before .before .before .before .before .before .before .st .given .1)) in omega (arith, z .forward, z .inside)
 
 read-message-part-find-in-end : (t : ℕ) → read-message-lts.Need-part-find-in-end (
   next-from-reads.Asked,
@@ -495,7 +495,7 @@ read-message-part-find-in-end : (t : ℕ) → read-message-lts.Need-part-find-in
   has-value-reads.Asked,
   has-value-reads.Learnt,
 ) (read-message-at t) read-message.Post read-message-Inv-loop read-message-μ-loop
-read-message-part-find-in-end t c = let z = reached _ _ _ _ (c .before .before .before .before .before .before .before .before .before .loop .inv .fair .inside) (scanned _ _ _ _ (c .before .before .before .before .before .before .before .before .next-from .ensures) (c .before .before .before .before .before .before .st .given .1)) in omega (arith, z .forward, z .inside)
+read-message-part-find-in-end t c = let z = reached _ _ _ _ (c .before .before .before .before .before .before .before .before .before .before .loop .inv .fair .inside) (scanned _ _ _ _ _ (c .before .before .before .before .before .before .before .before .before .next-from .ensures) (c .before .before .before .before .before .before .before .st .given .1)) in omega (arith, z .forward, z .inside)
 
 read-message-find-in-requires : (t : ℕ) → read-message-lts.Need-find-in-requires (
   next-from-reads.Asked,
@@ -515,7 +515,7 @@ read-message-find-in-requires : (t : ℕ) → read-message-lts.Need-find-in-requ
   has-value-reads.Asked,
   has-value-reads.Learnt,
 ) (read-message-at t) read-message.Post read-message-Inv-loop read-message-μ-loop
-read-message-find-in-requires t c κs = (c .before .before .before .before .before .before .before .before .before .before .before .before .before .before .before .pre .1 .1, c .before .before .before .before .before .before .before .before .before .before .before .before .before .before .before .pre .1 .3, c .before .before .before .before .before .before .before .before .before .before .before .before .before .before .before .pre .1 .4)
+read-message-find-in-requires t c κs = (c .before .before .before .before .before .before .before .before .before .before .before .before .before .before .before .before .pre .1 .1, c .before .before .before .before .before .before .before .before .before .before .before .before .before .before .before .before .pre .1 .3, c .before .before .before .before .before .before .before .before .before .before .before .before .before .before .before .before .pre .1 .4)
 
 read-message-enum-known-i : (t : ℕ) → read-message-lts.Need-enum-known-i (
   next-from-reads.Asked,
@@ -575,7 +575,7 @@ read-message-same-length-7 : (t : ℕ) → read-message-lts.Need-same-length-7 (
   has-value-reads.Asked,
   has-value-reads.Learnt,
 ) (read-message-at t) read-message.Post read-message-Inv-loop read-message-μ-loop
-read-message-same-length-7 t c = c .before .before .before .before .before .before .before .before .before .before .before .before .before .loop .inv .long
+read-message-same-length-7 t c = c .before .before .before .before .before .before .before .before .before .before .before .before .before .before .loop .inv .long
 
 read-message-same-length-8 : (t : ℕ) → read-message-lts.Need-same-length-8 (
   next-from-reads.Asked,
@@ -595,7 +595,7 @@ read-message-same-length-8 : (t : ℕ) → read-message-lts.Need-same-length-8 (
   has-value-reads.Asked,
   has-value-reads.Learnt,
 ) (read-message-at t) read-message.Post read-message-Inv-loop read-message-μ-loop
-read-message-same-length-8 t c = c .before .before .before .before .before .before .before .before .before .before .before .before .before .loop .inv .wide
+read-message-same-length-8 t c = c .before .before .before .before .before .before .before .before .before .before .before .before .before .before .loop .inv .wide
 
 read-message-returns-4 : (t : ℕ) → read-message-lts.Need-returns-4 (
   next-from-reads.Asked,
@@ -615,7 +615,7 @@ read-message-returns-4 : (t : ℕ) → read-message-lts.Need-returns-4 (
   has-value-reads.Asked,
   has-value-reads.Learnt,
 ) (read-message-at t) read-message.Post read-message-Inv-loop read-message-μ-loop
-read-message-returns-4 t c = ends _ _ _ (c .before .before .before .before .before .before .before .before .before .before .before .before .before .before .before .before .before .before .args .w) _ _ _ _ _ _ _ _ _ _ (c .before .before .before .before .before .before .before .before .before .before .before .before .before .loop .inv) (no-answers _ _ _ _ _ _ _ _ _ (rest-unknown _ _ _ (c .before .before .before .before .before .before .before .before .before .before .before .before .before .before .before .before .before .before .args .w) _ _ (c .before .before .before .before .before .before .before .before .before .before .before .before .before .loop .inv .fair .inside) _ _ (scanned _ _ _ _ (c .before .before .before .before .before .before .before .before .before .before .before .before .next-from .ensures) (c .before .before .before .before .before .before .before .before .before .before .st .given .1)) (c .before .before .before .before .before .before .if1 .left) (c .before .before .before .before .if2 .left) (nothing-is _ (sym (c .enum-told2 .given .1) ∙ c .before .before .find-in .ensures))) refl)
+read-message-returns-4 t c = ends _ _ _ (c .before .before .before .before .before .before .before .before .before .before .before .before .before .before .before .before .before .before .before .args .w) _ _ _ _ _ _ _ _ _ _ (c .before .before .before .before .before .before .before .before .before .before .before .before .before .before .loop .inv) (no-answers _ _ _ _ _ _ _ _ _ (rest-unknown _ _ _ (c .before .before .before .before .before .before .before .before .before .before .before .before .before .before .before .before .before .before .before .args .w) _ _ (c .before .before .before .before .before .before .before .before .before .before .before .before .before .before .loop .inv .fair .inside) _ _ (scanned _ _ _ _ _ (c .before .before .before .before .before .before .before .before .before .before .before .before .before .next-from .ensures) (c .before .before .before .before .before .before .before .before .before .before .before .st .given .1)) (c .before .before .before .before .before .before .if1 .left) (c .before .before .before .before .if2 .left) (nothing-is _ (sym (c .enum-told2 .given .1) ∙ c .before .before .find-in .ensures))) refl)
 
 read-message-is-again-requires : (t : ℕ) → read-message-lts.Need-is-again-requires (
   next-from-reads.Asked,
@@ -655,7 +655,7 @@ read-message-same-length-9 : (t : ℕ) → read-message-lts.Need-same-length-9 (
   has-value-reads.Asked,
   has-value-reads.Learnt,
 ) (read-message-at t) read-message.Post read-message-Inv-loop read-message-μ-loop
-read-message-same-length-9 t c = c .before .before .before .before .before .before .before .before .before .before .before .before .before .before .before .before .loop .inv .long
+read-message-same-length-9 t c = c .before .before .before .before .before .before .before .before .before .before .before .before .before .before .before .before .before .loop .inv .long
 
 read-message-same-length-10 : (t : ℕ) → read-message-lts.Need-same-length-10 (
   next-from-reads.Asked,
@@ -675,7 +675,7 @@ read-message-same-length-10 : (t : ℕ) → read-message-lts.Need-same-length-10
   has-value-reads.Asked,
   has-value-reads.Learnt,
 ) (read-message-at t) read-message.Post read-message-Inv-loop read-message-μ-loop
-read-message-same-length-10 t c = c .before .before .before .before .before .before .before .before .before .before .before .before .before .before .before .before .loop .inv .wide
+read-message-same-length-10 t c = c .before .before .before .before .before .before .before .before .before .before .before .before .before .before .before .before .before .loop .inv .wide
 
 read-message-returns-5 : (t : ℕ) → read-message-lts.Need-returns-5 (
   next-from-reads.Asked,
@@ -695,7 +695,7 @@ read-message-returns-5 : (t : ℕ) → read-message-lts.Need-returns-5 (
   has-value-reads.Asked,
   has-value-reads.Learnt,
 ) (read-message-at t) read-message.Post read-message-Inv-loop read-message-μ-loop
-read-message-returns-5 t c = ends _ _ _ (c .before .before .before .before .before .before .before .before .before .before .before .before .before .before .before .before .before .before .before .before .before .args .w) _ _ _ _ _ _ _ _ _ _ (c .before .before .before .before .before .before .before .before .before .before .before .before .before .before .before .before .loop .inv) (no-answers _ _ _ _ _ _ _ _ _ (rest-twice _ _ _ (c .before .before .before .before .before .before .before .before .before .before .before .before .before .before .before .before .before .before .before .before .before .args .w) _ _ (c .before .before .before .before .before .before .before .before .before .before .before .before .before .before .before .before .loop .inv .fair .inside) _ _ (scanned _ _ _ _ (c .before .before .before .before .before .before .before .before .before .before .before .before .before .before .before .next-from .ensures) (c .before .before .before .before .before .before .before .before .before .before .before .before .before .st .given .1)) (c .before .before .before .before .before .before .before .before .before .if1 .left) (c .before .before .before .before .before .before .before .if2 .left) _ (found-is _ _ (sym (c .before .before .before .i .given .1) ∙ c .before .before .before .before .before .find-in .ensures)) (sym (c .if3 .taken) ∙ c .before .is-again .ensures ∙ again-at _ _ _ _ _ _)) refl)
+read-message-returns-5 t c = ends _ _ _ (c .before .before .before .before .before .before .before .before .before .before .before .before .before .before .before .before .before .before .before .before .before .before .args .w) _ _ _ _ _ _ _ _ _ _ (c .before .before .before .before .before .before .before .before .before .before .before .before .before .before .before .before .before .loop .inv) (no-answers _ _ _ _ _ _ _ _ _ (rest-twice _ _ _ (c .before .before .before .before .before .before .before .before .before .before .before .before .before .before .before .before .before .before .before .before .before .before .args .w) _ _ (c .before .before .before .before .before .before .before .before .before .before .before .before .before .before .before .before .before .loop .inv .fair .inside) _ _ (scanned _ _ _ _ _ (c .before .before .before .before .before .before .before .before .before .before .before .before .before .before .before .before .next-from .ensures) (c .before .before .before .before .before .before .before .before .before .before .before .before .before .before .st .given .1)) (c .before .before .before .before .before .before .before .before .before .if1 .left) (c .before .before .before .before .before .before .before .if2 .left) _ (found-is _ _ (sym (c .before .before .before .i .given .1) ∙ c .before .before .before .before .before .find-in .ensures)) (sym (c .if3 .taken) ∙ c .before .is-again .ensures ∙ again-at _ _ _ _ _ _)) refl)
 
 read-message-merge-field-requires : (t : ℕ) → read-message-lts.Need-merge-field-requires (
   next-from-reads.Asked,
@@ -716,9 +716,9 @@ read-message-merge-field-requires : (t : ℕ) → read-message-lts.Need-merge-fi
   has-value-reads.Learnt,
 ) (read-message-at t) read-message.Post read-message-Inv-loop read-message-μ-loop
 read-message-merge-field-requires t c κs =
-    let lt = name-falls _ _ _ (c .before .before .before .before .before .before .before .before .before .before .before .before .before .before .before .before .before .before .before .before .before .before .before .args .w) _ _ _ _ _ _ _ (c .before .before .before .before .before .before .before .before .before .before .before .before .before .before .before .before .before .before .loop .inv) _ _ (scanned _ _ _ _ (c .before .before .before .before .before .before .before .before .before .before .before .before .before .before .before .before .before .next-from .ensures) (c .before .before .before .before .before .before .before .before .before .before .before .before .before .before .before .st .given .1)) (c .before .before .before .before .before .before .before .before .before .before .before .if1 .left) (c .before .before .before .before .before .before .before .before .before .if2 .left) _ (found-is _ _ (sym (c .before .before .before .before .before .i .given .1) ∙ c .before .before .before .before .before .before .before .find-in .ensures)) (sym (c .before .before .if3 .left) ∙ c .before .before .before .is-again .ensures ∙ again-at _ _ _ _ _ _) in
-    let fa = fair-after _ _ _ (c .before .before .before .before .before .before .before .before .before .before .before .before .before .before .before .before .before .before .before .before .before .before .before .args .w) _ _ _ _ _ _ _ (c .before .before .before .before .before .before .before .before .before .before .before .before .before .before .before .before .before .before .loop .inv) _ _ (scanned _ _ _ _ (c .before .before .before .before .before .before .before .before .before .before .before .before .before .before .before .before .before .next-from .ensures) (c .before .before .before .before .before .before .before .before .before .before .before .before .before .before .before .st .given .1)) (c .before .before .before .before .before .before .before .before .before .before .before .if1 .left) (c .before .before .before .before .before .before .before .before .before .if2 .left) _ (found-is _ _ (sym (c .before .before .before .before .before .i .given .1) ∙ c .before .before .before .before .before .before .before .find-in .ensures)) (sym (c .before .before .if3 .left) ∙ c .before .before .before .is-again .ensures ∙ again-at _ _ _ _ _ _) in
-    (omega (arith, c .before .before .before .before .before .before .before .before .before .before .before .before .before .before .before .before .before .before .before .before .before .before .before .pre .0, lt, c .before .before .before .before .before .before .before .before .before .before .before .before .before .before .before .before .before .before .loop .inv .on, fa .inside), (c .before .before .before .before .before .before .before .before .before .before .before .before .before .before .before .before .before .before .before .before .before .before .before .pre .1 .0, c .before .before .before .before .before .before .before .before .before .before .before .before .before .before .before .before .before .before .before .before .before .before .before .pre .1 .1, fa, c .before .before .before .before .before .before .before .before .before .before .before .before .before .before .before .before .before .before .before .before .before .before .before .pre .1 .3, found-inside _ _ _ _ (found-is _ _ (sym (c .before .before .before .before .before .i .given .1) ∙ c .before .before .before .before .before .before .before .find-in .ensures)), c .before .before .before .before .before .before .before .before .before .before .before .before .before .before .before .before .before .before .before .before .before .before .before .pre .1 .4))
+    let lt = name-falls _ _ _ (c .before .before .before .before .before .before .before .before .before .before .before .before .before .before .before .before .before .before .before .before .before .before .before .before .args .w) _ _ _ _ _ _ _ (c .before .before .before .before .before .before .before .before .before .before .before .before .before .before .before .before .before .before .before .loop .inv) _ _ (scanned _ _ _ _ _ (c .before .before .before .before .before .before .before .before .before .before .before .before .before .before .before .before .before .before .next-from .ensures) (c .before .before .before .before .before .before .before .before .before .before .before .before .before .before .before .before .st .given .1)) (c .before .before .before .before .before .before .before .before .before .before .before .if1 .left) (c .before .before .before .before .before .before .before .before .before .if2 .left) _ (found-is _ _ (sym (c .before .before .before .before .before .i .given .1) ∙ c .before .before .before .before .before .before .before .find-in .ensures)) (sym (c .before .before .if3 .left) ∙ c .before .before .before .is-again .ensures ∙ again-at _ _ _ _ _ _) in
+    let fa = fair-after _ _ _ (c .before .before .before .before .before .before .before .before .before .before .before .before .before .before .before .before .before .before .before .before .before .before .before .before .args .w) _ _ _ _ _ _ _ (c .before .before .before .before .before .before .before .before .before .before .before .before .before .before .before .before .before .before .before .loop .inv) _ _ (scanned _ _ _ _ _ (c .before .before .before .before .before .before .before .before .before .before .before .before .before .before .before .before .before .before .next-from .ensures) (c .before .before .before .before .before .before .before .before .before .before .before .before .before .before .before .before .st .given .1)) (c .before .before .before .before .before .before .before .before .before .before .before .if1 .left) (c .before .before .before .before .before .before .before .before .before .if2 .left) _ (found-is _ _ (sym (c .before .before .before .before .before .i .given .1) ∙ c .before .before .before .before .before .before .before .find-in .ensures)) (sym (c .before .before .if3 .left) ∙ c .before .before .before .is-again .ensures ∙ again-at _ _ _ _ _ _) (scanned-line _ _ _ _ _ (c .before .before .before .before .before .before .before .before .before .before .before .before .before .before .before .before .before .before .next-from .ensures) (c .before .before .before .before .before .before .before .before .before .before .before .before .before .before .before .before .st .given .1)) in
+    (omega (arith, c .before .before .before .before .before .before .before .before .before .before .before .before .before .before .before .before .before .before .before .before .before .before .before .before .pre .0, lt, c .before .before .before .before .before .before .before .before .before .before .before .before .before .before .before .before .before .before .before .loop .inv .on, fa .inside), (c .before .before .before .before .before .before .before .before .before .before .before .before .before .before .before .before .before .before .before .before .before .before .before .before .pre .1 .0, c .before .before .before .before .before .before .before .before .before .before .before .before .before .before .before .before .before .before .before .before .before .before .before .before .pre .1 .1, fa, c .before .before .before .before .before .before .before .before .before .before .before .before .before .before .before .before .before .before .before .before .before .before .before .before .pre .1 .3, found-inside _ _ _ _ (found-is _ _ (sym (c .before .before .before .before .before .i .given .1) ∙ c .before .before .before .before .before .before .before .find-in .ensures)), c .before .before .before .before .before .before .before .before .before .before .before .before .before .before .before .before .before .before .before .before .before .before .before .before .pre .1 .4))
 
 read-message-enum-known-r : (t : ℕ) → read-message-lts.Need-enum-known-r (
   next-from-reads.Asked,
@@ -778,7 +778,7 @@ read-message-same-length-11 : (t : ℕ) → read-message-lts.Need-same-length-11
   has-value-reads.Asked,
   has-value-reads.Learnt,
 ) (read-message-at t) read-message.Post read-message-Inv-loop read-message-μ-loop
-read-message-same-length-11 t c = c .before .before .before .before .before .before .merge-field .kept .1 .1 .1 .1 .1 .1 .1 .1 .1 .0 ∙ c .before .before .before .before .before .before .before .before .before .before .before .before .before .before .before .before .before .before .before .before .before .before .before .before .before .loop .inv .long
+read-message-same-length-11 t c = c .before .before .before .before .before .before .merge-field .kept .1 .1 .1 .1 .1 .1 .1 .1 .1 .1 .0 ∙ c .before .before .before .before .before .before .before .before .before .before .before .before .before .before .before .before .before .before .before .before .before .before .before .before .before .before .loop .inv .long
 
 read-message-same-length-12 : (t : ℕ) → read-message-lts.Need-same-length-12 (
   next-from-reads.Asked,
@@ -798,7 +798,7 @@ read-message-same-length-12 : (t : ℕ) → read-message-lts.Need-same-length-12
   has-value-reads.Asked,
   has-value-reads.Learnt,
 ) (read-message-at t) read-message.Post read-message-Inv-loop read-message-μ-loop
-read-message-same-length-12 t c = c .before .before .before .before .before .before .merge-field .kept .1 .1 .1 .1 .1 .1 .1 .1 .1 .1 .0 ∙ c .before .before .before .before .before .before .before .before .before .before .before .before .before .before .before .before .before .before .before .before .before .before .before .before .before .loop .inv .wide
+read-message-same-length-12 t c = c .before .before .before .before .before .before .merge-field .kept .1 .1 .1 .1 .1 .1 .1 .1 .1 .1 .1 .0 ∙ c .before .before .before .before .before .before .before .before .before .before .before .before .before .before .before .before .before .before .before .before .before .before .before .before .before .before .loop .inv .wide
 
 read-message-returns-6 : (t : ℕ) → read-message-lts.Need-returns-6 (
   next-from-reads.Asked,
@@ -818,7 +818,7 @@ read-message-returns-6 : (t : ℕ) → read-message-lts.Need-returns-6 (
   has-value-reads.Asked,
   has-value-reads.Learnt,
 ) (read-message-at t) read-message.Post read-message-Inv-loop read-message-μ-loop
-read-message-returns-6 t c = ends _ _ _ (c .before .before .before .before .before .before .before .before .before .before .before .before .before .before .before .before .before .before .before .before .before .before .before .before .before .before .before .before .before .before .args .w) _ _ _ _ _ _ _ _ _ _ (c .before .before .before .before .before .before .before .before .before .before .before .before .before .before .before .before .before .before .before .before .before .before .before .before .before .loop .inv) (field-no _ _ _ (c .before .before .before .before .before .before .before .before .before .before .before .before .before .before .before .before .before .before .before .before .before .before .before .before .before .before .before .before .before .before .args .w) _ _ _ _ _ _ _ (c .before .before .before .before .before .before .before .before .before .before .before .before .before .before .before .before .before .before .before .before .before .before .before .before .before .loop .inv) _ _ (scanned _ _ _ _ (c .before .before .before .before .before .before .before .before .before .before .before .before .before .before .before .before .before .before .before .before .before .before .before .before .next-from .ensures) (c .before .before .before .before .before .before .before .before .before .before .before .before .before .before .before .before .before .before .before .before .before .before .st .given .1)) (c .before .before .before .before .before .before .before .before .before .before .before .before .before .before .before .before .before .before .if1 .left) (c .before .before .before .before .before .before .before .before .before .before .before .before .before .before .before .before .if2 .left) _ (found-is _ _ (sym (c .before .before .before .before .before .before .before .before .before .before .before .before .i .given .1) ∙ c .before .before .before .before .before .before .before .before .before .before .before .before .before .before .find-in .ensures)) (sym (c .before .before .before .before .before .before .before .before .before .if3 .left) ∙ c .before .before .before .before .before .before .before .before .before .before .is-again .ensures ∙ again-at _ _ _ _ _ _) _ _ _ (c .before .before .before .before .before .before .merge-field .ensures) _ _ (c .enum-told3 .given .1))
+read-message-returns-6 t c = ends _ _ _ (c .before .before .before .before .before .before .before .before .before .before .before .before .before .before .before .before .before .before .before .before .before .before .before .before .before .before .before .before .before .before .before .args .w) _ _ _ _ _ _ _ _ _ _ (c .before .before .before .before .before .before .before .before .before .before .before .before .before .before .before .before .before .before .before .before .before .before .before .before .before .before .loop .inv) (field-no _ _ _ (c .before .before .before .before .before .before .before .before .before .before .before .before .before .before .before .before .before .before .before .before .before .before .before .before .before .before .before .before .before .before .before .args .w) _ _ _ _ _ _ _ (c .before .before .before .before .before .before .before .before .before .before .before .before .before .before .before .before .before .before .before .before .before .before .before .before .before .before .loop .inv) _ _ (scanned _ _ _ _ _ (c .before .before .before .before .before .before .before .before .before .before .before .before .before .before .before .before .before .before .before .before .before .before .before .before .before .next-from .ensures) (c .before .before .before .before .before .before .before .before .before .before .before .before .before .before .before .before .before .before .before .before .before .before .before .st .given .1)) (c .before .before .before .before .before .before .before .before .before .before .before .before .before .before .before .before .before .before .if1 .left) (c .before .before .before .before .before .before .before .before .before .before .before .before .before .before .before .before .if2 .left) _ (found-is _ _ (sym (c .before .before .before .before .before .before .before .before .before .before .before .before .i .given .1) ∙ c .before .before .before .before .before .before .before .before .before .before .before .before .before .before .find-in .ensures)) (sym (c .before .before .before .before .before .before .before .before .before .if3 .left) ∙ c .before .before .before .before .before .before .before .before .before .before .is-again .ensures ∙ again-at _ _ _ _ _ _) _ _ _ (c .before .before .before .before .before .before .merge-field .ensures) _ _ (c .enum-told3 .given .1))
 
 read-message-has-key-requires : (t : ℕ) → read-message-lts.Need-has-key-requires (
   next-from-reads.Asked,
@@ -879,8 +879,8 @@ read-message-loop-less : (t : ℕ) → read-message-lts.Need-loop-less (
   has-value-reads.Learnt,
 ) (read-message-at t) read-message.Post read-message-Inv-loop read-message-μ-loop
 read-message-loop-less t c =
-    let lt = further _ _ _ (c .before .before .before .before .before .before .before .before .before .before .before .before .before .before .before .before .before .before .before .before .before .before .before .before .before .before .before .before .before .before .before .before .before .args .w) _ _ _ _ _ _ _ (c .before .before .before .before .before .before .before .before .before .before .before .before .before .before .before .before .before .before .before .before .before .before .before .before .before .before .before .before .loop .inv) _ _ (scanned _ _ _ _ (c .before .before .before .before .before .before .before .before .before .before .before .before .before .before .before .before .before .before .before .before .before .before .before .before .before .before .before .next-from .ensures) (c .before .before .before .before .before .before .before .before .before .before .before .before .before .before .before .before .before .before .before .before .before .before .before .before .before .st .given .1)) (c .before .before .before .before .before .before .before .before .before .before .before .before .before .before .before .before .before .before .before .before .before .if1 .left) (c .before .before .before .before .before .before .before .before .before .before .before .before .before .before .before .before .before .before .before .if2 .left) _ (found-is _ _ (sym (c .before .before .before .before .before .before .before .before .before .before .before .before .before .before .before .i .given .1) ∙ c .before .before .before .before .before .before .before .before .before .before .before .before .before .before .before .before .before .find-in .ensures)) (sym (c .before .before .before .before .before .before .before .before .before .before .before .before .if3 .left) ∙ c .before .before .before .before .before .before .before .before .before .before .before .before .before .is-again .ensures ∙ again-at _ _ _ _ _ _) _ _ _ (c .before .before .before .before .before .before .before .before .before .merge-field .ensures) _ (c .before .before .before .r .given .1) in
-    let i = next-inside _ _ _ (c .before .before .before .before .before .before .before .before .before .before .before .before .before .before .before .before .before .before .before .before .before .before .before .before .before .before .before .before .before .before .before .before .before .args .w) _ _ _ _ _ _ _ (c .before .before .before .before .before .before .before .before .before .before .before .before .before .before .before .before .before .before .before .before .before .before .before .before .before .before .before .before .loop .inv) _ _ (scanned _ _ _ _ (c .before .before .before .before .before .before .before .before .before .before .before .before .before .before .before .before .before .before .before .before .before .before .before .before .before .before .before .next-from .ensures) (c .before .before .before .before .before .before .before .before .before .before .before .before .before .before .before .before .before .before .before .before .before .before .before .before .before .st .given .1)) (c .before .before .before .before .before .before .before .before .before .before .before .before .before .before .before .before .before .before .before .before .before .if1 .left) (c .before .before .before .before .before .before .before .before .before .before .before .before .before .before .before .before .before .before .before .if2 .left) _ (found-is _ _ (sym (c .before .before .before .before .before .before .before .before .before .before .before .before .before .before .before .i .given .1) ∙ c .before .before .before .before .before .before .before .before .before .before .before .before .before .before .before .before .before .find-in .ensures)) (sym (c .before .before .before .before .before .before .before .before .before .before .before .before .if3 .left) ∙ c .before .before .before .before .before .before .before .before .before .before .before .before .before .is-again .ensures ∙ again-at _ _ _ _ _ _) _ _ _ (c .before .before .before .before .before .before .before .before .before .merge-field .ensures) _ (c .before .before .before .r .given .1) in
+    let lt = further _ _ _ (c .before .before .before .before .before .before .before .before .before .before .before .before .before .before .before .before .before .before .before .before .before .before .before .before .before .before .before .before .before .before .before .before .before .before .args .w) _ _ _ _ _ _ _ (c .before .before .before .before .before .before .before .before .before .before .before .before .before .before .before .before .before .before .before .before .before .before .before .before .before .before .before .before .before .loop .inv) _ _ (scanned _ _ _ _ _ (c .before .before .before .before .before .before .before .before .before .before .before .before .before .before .before .before .before .before .before .before .before .before .before .before .before .before .before .before .next-from .ensures) (c .before .before .before .before .before .before .before .before .before .before .before .before .before .before .before .before .before .before .before .before .before .before .before .before .before .before .st .given .1)) (c .before .before .before .before .before .before .before .before .before .before .before .before .before .before .before .before .before .before .before .before .before .if1 .left) (c .before .before .before .before .before .before .before .before .before .before .before .before .before .before .before .before .before .before .before .if2 .left) _ (found-is _ _ (sym (c .before .before .before .before .before .before .before .before .before .before .before .before .before .before .before .i .given .1) ∙ c .before .before .before .before .before .before .before .before .before .before .before .before .before .before .before .before .before .find-in .ensures)) (sym (c .before .before .before .before .before .before .before .before .before .before .before .before .if3 .left) ∙ c .before .before .before .before .before .before .before .before .before .before .before .before .before .is-again .ensures ∙ again-at _ _ _ _ _ _) _ _ _ (c .before .before .before .before .before .before .before .before .before .merge-field .ensures) _ (c .before .before .before .r .given .1) in
+    let i = next-inside _ _ _ (c .before .before .before .before .before .before .before .before .before .before .before .before .before .before .before .before .before .before .before .before .before .before .before .before .before .before .before .before .before .before .before .before .before .before .args .w) _ _ _ _ _ _ _ (c .before .before .before .before .before .before .before .before .before .before .before .before .before .before .before .before .before .before .before .before .before .before .before .before .before .before .before .before .before .loop .inv) _ _ (scanned _ _ _ _ _ (c .before .before .before .before .before .before .before .before .before .before .before .before .before .before .before .before .before .before .before .before .before .before .before .before .before .before .before .before .next-from .ensures) (c .before .before .before .before .before .before .before .before .before .before .before .before .before .before .before .before .before .before .before .before .before .before .before .before .before .before .st .given .1)) (c .before .before .before .before .before .before .before .before .before .before .before .before .before .before .before .before .before .before .before .before .before .if1 .left) (c .before .before .before .before .before .before .before .before .before .before .before .before .before .before .before .before .before .before .before .if2 .left) _ (found-is _ _ (sym (c .before .before .before .before .before .before .before .before .before .before .before .before .before .before .before .i .given .1) ∙ c .before .before .before .before .before .before .before .before .before .before .before .before .before .before .before .before .before .find-in .ensures)) (sym (c .before .before .before .before .before .before .before .before .before .before .before .before .if3 .left) ∙ c .before .before .before .before .before .before .before .before .before .before .before .before .before .is-again .ensures ∙ again-at _ _ _ _ _ _) _ _ _ (c .before .before .before .before .before .before .before .before .before .merge-field .ensures) _ (c .before .before .before .r .given .1) in
     omega (arith, lt, i)
 
 read-message-loop-again : (t : ℕ) → read-message-lts.Need-loop-again (
@@ -901,7 +901,7 @@ read-message-loop-again : (t : ℕ) → read-message-lts.Need-loop-again (
   has-value-reads.Asked,
   has-value-reads.Learnt,
 ) (read-message-at t) read-message.Post read-message-Inv-loop read-message-μ-loop
-read-message-loop-again t c = goes-on _ _ _ (c .before .before .before .before .before .before .before .before .before .before .before .before .before .before .before .before .before .before .before .before .before .before .before .before .before .before .before .before .before .before .before .before .before .args .w) _ _ _ _ _ _ _ (c .before .before .before .before .before .before .before .before .before .before .before .before .before .before .before .before .before .before .before .before .before .before .before .before .before .before .before .before .loop .inv) _ _ (scanned _ _ _ _ (c .before .before .before .before .before .before .before .before .before .before .before .before .before .before .before .before .before .before .before .before .before .before .before .before .before .before .before .next-from .ensures) (c .before .before .before .before .before .before .before .before .before .before .before .before .before .before .before .before .before .before .before .before .before .before .before .before .before .st .given .1)) (c .before .before .before .before .before .before .before .before .before .before .before .before .before .before .before .before .before .before .before .before .before .if1 .left) (c .before .before .before .before .before .before .before .before .before .before .before .before .before .before .before .before .before .before .before .if2 .left) _ (found-is _ _ (sym (c .before .before .before .before .before .before .before .before .before .before .before .before .before .before .before .i .given .1) ∙ c .before .before .before .before .before .before .before .before .before .before .before .before .before .before .before .before .before .find-in .ensures)) (sym (c .before .before .before .before .before .before .before .before .before .before .before .before .if3 .left) ∙ c .before .before .before .before .before .before .before .before .before .before .before .before .before .is-again .ensures ∙ again-at _ _ _ _ _ _) _ _ _ (c .before .before .before .before .before .before .before .before .before .merge-field .ensures) _ (c .before .before .before .r .given .1) (c .before .before .before .before .before .before .before .before .before .merge-field .kept .1 .1 .1 .1 .1 .1 .1 .1 .1 .0) (c .before .before .before .before .before .before .before .before .before .merge-field .kept .1 .1 .1 .1 .1 .1 .1 .1 .1 .1 .0) _ (stands _ _ _ _ _ _ (c .before .has-key .ensures _ _ _) (c .has-value .ensures _ _ _))
+read-message-loop-again t c = goes-on _ _ _ (c .before .before .before .before .before .before .before .before .before .before .before .before .before .before .before .before .before .before .before .before .before .before .before .before .before .before .before .before .before .before .before .before .before .before .args .w) _ _ _ _ _ _ _ (c .before .before .before .before .before .before .before .before .before .before .before .before .before .before .before .before .before .before .before .before .before .before .before .before .before .before .before .before .before .loop .inv) _ _ (scanned _ _ _ _ _ (c .before .before .before .before .before .before .before .before .before .before .before .before .before .before .before .before .before .before .before .before .before .before .before .before .before .before .before .before .next-from .ensures) (c .before .before .before .before .before .before .before .before .before .before .before .before .before .before .before .before .before .before .before .before .before .before .before .before .before .before .st .given .1)) (c .before .before .before .before .before .before .before .before .before .before .before .before .before .before .before .before .before .before .before .before .before .if1 .left) (c .before .before .before .before .before .before .before .before .before .before .before .before .before .before .before .before .before .before .before .if2 .left) _ (found-is _ _ (sym (c .before .before .before .before .before .before .before .before .before .before .before .before .before .before .before .i .given .1) ∙ c .before .before .before .before .before .before .before .before .before .before .before .before .before .before .before .before .before .find-in .ensures)) (sym (c .before .before .before .before .before .before .before .before .before .before .before .before .if3 .left) ∙ c .before .before .before .before .before .before .before .before .before .before .before .before .before .is-again .ensures ∙ again-at _ _ _ _ _ _) _ _ _ (c .before .before .before .before .before .before .before .before .before .merge-field .ensures) _ (c .before .before .before .r .given .1) (c .before .before .before .before .before .before .before .before .before .merge-field .kept .1 .1 .1 .1 .1 .1 .1 .1 .1 .1 .0) (c .before .before .before .before .before .before .before .before .before .merge-field .kept .1 .1 .1 .1 .1 .1 .1 .1 .1 .1 .1 .0) _ (stands _ _ _ _ _ _ (c .before .has-key .ensures _ _ _) (c .has-value .ensures _ _ _))
 
 read-value-of-type-read-colon-requires : (t : ℕ) → read-value-of-type-lts.Need-read-colon-requires (
   read-colon-reads.Asked,
@@ -933,7 +933,7 @@ read-value-of-type-same-length : (t : ℕ) → read-value-of-type-lts.Need-same-
   put-body-reads.Asked,
   put-body-reads.Learnt,
 ) (read-value-of-type-at t) read-value-of-type.Post
-read-value-of-type-same-length t c = c .before .before .before .before .read-colon .kept .1 .1 .1 .1 .1 .1 .1 .0
+read-value-of-type-same-length t c = c .before .before .before .before .read-colon .kept .1 .1 .1 .1 .1 .1 .1 .1 .0
 
 read-value-of-type-same-length-2 : (t : ℕ) → read-value-of-type-lts.Need-same-length-2 (
   read-colon-reads.Asked,
@@ -949,7 +949,7 @@ read-value-of-type-same-length-2 : (t : ℕ) → read-value-of-type-lts.Need-sam
   put-body-reads.Asked,
   put-body-reads.Learnt,
 ) (read-value-of-type-at t) read-value-of-type.Post
-read-value-of-type-same-length-2 t c = c .before .before .before .before .read-colon .kept .1 .1 .1 .1 .1 .1 .1 .1 .0
+read-value-of-type-same-length-2 t c = c .before .before .before .before .read-colon .kept .1 .1 .1 .1 .1 .1 .1 .1 .1 .0
 
 read-value-of-type-returns : (t : ℕ) → read-value-of-type-lts.Need-returns (
   read-colon-reads.Asked,
@@ -981,7 +981,7 @@ read-value-of-type-next-from-requires : (t : ℕ) → read-value-of-type-lts.Nee
   put-body-reads.Asked,
   put-body-reads.Learnt,
 ) (read-value-of-type-at t) read-value-of-type.Post
-read-value-of-type-next-from-requires t c κs = c .before .before .before .before .before .before .pre .1 .0 .0
+read-value-of-type-next-from-requires t c κs = (c .before .before .before .before .before .before .pre .1 .0 .0, fair-located _ _ (c .before .before .before .before .before .before .pre .1 .2))
 
 read-value-of-type-enum-known-st : (t : ℕ) → read-value-of-type-lts.Need-enum-known-st (
   read-colon-reads.Asked,
@@ -1045,7 +1045,7 @@ read-value-of-type-returns-2 : (t : ℕ) → read-value-of-type-lts.Need-returns
   put-body-reads.Asked,
   put-body-reads.Learnt,
 ) (read-value-of-type-at t) read-value-of-type.Post
-read-value-of-type-returns-2 t c = no-answers _ _ _ _ _ _ _ _ _ (field-bad _ _ _ _ _ (c .before .before .before .before .if1 .left) (c .before .before .before .before .before .before .before .before .before .before .pre .1 .4 .most) _ (scanned-bad _ _ _ (c .before .before .before .next-from .ensures) (c .before .enum-told .given .1))) (bad-is _ _ _ (c .before .enum-told .given .1) (c .bad .ensures))
+read-value-of-type-returns-2 t c = no-answers _ _ _ _ _ _ _ _ _ (field-bad _ _ _ _ _ (c .before .before .before .before .if1 .left) (c .before .before .before .before .before .before .before .before .before .before .pre .1 .4 .most) _ (scanned-bad _ _ _ _ (c .before .before .before .next-from .ensures) (c .before .enum-told .given .1))) (bad-is _ _ _ (c .before .enum-told .given .1) (c .bad .ensures))
 
 read-value-of-type-closer-of-requires : (t : ℕ) → read-value-of-type-lts.Need-closer-of-requires (
   read-colon-reads.Asked,
@@ -1077,7 +1077,7 @@ read-value-of-type-returns-3 : (t : ℕ) → read-value-of-type-lts.Need-returns
   put-body-reads.Asked,
   put-body-reads.Learnt,
 ) (read-value-of-type-at t) read-value-of-type.Post
-read-value-of-type-returns-3 t c = no-answers _ _ _ _ _ _ _ _ _ (field-other _ _ _ _ _ (c .before .before .before .before .before .before .before .if1 .left) (c .before .before .before .before .before .before .before .before .before .before .before .before .before .pre .1 .4 .most) _ _ (scanned _ _ _ _ (c .before .before .before .before .before .before .next-from .ensures) (c .before .before .before .before .st .given .1)) _ (c .before .closer-of .ensures) (c .if2 .taken)) refl
+read-value-of-type-returns-3 t c = no-answers _ _ _ _ _ _ _ _ _ (field-other _ _ _ _ _ (c .before .before .before .before .before .before .before .if1 .left) (c .before .before .before .before .before .before .before .before .before .before .before .before .before .pre .1 .4 .most) _ _ (scanned _ _ _ _ _ (c .before .before .before .before .before .before .next-from .ensures) (c .before .before .before .before .st .given .1)) _ (c .before .closer-of .ensures) (c .if2 .taken)) refl
 
 read-value-of-type-returns-4 : (t : ℕ) → read-value-of-type-lts.Need-returns-4 (
   read-colon-reads.Asked,
@@ -1093,9 +1093,9 @@ read-value-of-type-returns-4 : (t : ℕ) → read-value-of-type-lts.Need-returns
   put-body-reads.Asked,
   put-body-reads.Learnt,
 ) (read-value-of-type-at t) read-value-of-type.Post
-read-value-of-type-returns-4 t c = no-answers _ _ _ _ _ _ _ _ _ (field-deep _ _ _ _ _ (c .before .before .before .before .before .before .before .before .if1 .left) (c .before .before .before .before .before .before .before .before .before .before .before .before .before .before .pre .1 .4 .most) _ _ (scanned _ _ _ _ (c .before .before .before .before .before .before .before .next-from .ensures) (c .before .before .before .before .before .st .given .1)) _ (c .before .before .closer-of .ensures) (c .before .if2 .left) (c .if3 .taken)) refl
+read-value-of-type-returns-4 t c = no-answers _ _ _ _ _ _ _ _ _ (field-deep _ _ _ _ _ (c .before .before .before .before .before .before .before .before .if1 .left) (c .before .before .before .before .before .before .before .before .before .before .before .before .before .before .pre .1 .4 .most) _ _ (scanned _ _ _ _ _ (c .before .before .before .before .before .before .before .next-from .ensures) (c .before .before .before .before .before .st .given .1)) _ (c .before .before .closer-of .ensures) (c .before .if2 .left) (c .if3 .taken)) refl
 
-read-value-of-type-add-read-message : (t : ℕ) → read-value-of-type-lts.Need-add-read-message (
+read-value-of-type-add-inside : (t : ℕ) → read-value-of-type-lts.Need-add-inside (
   read-colon-reads.Asked,
   read-colon-reads.Learnt,
   next-from-reads.Asked,
@@ -1109,7 +1109,7 @@ read-value-of-type-add-read-message : (t : ℕ) → read-value-of-type-lts.Need-
   put-body-reads.Asked,
   put-body-reads.Learnt,
 ) (read-value-of-type-at t) read-value-of-type.Post
-read-value-of-type-add-read-message t c = omega (arith, c .before .before .before .before .before .before .before .before .before .before .before .before .before .before .before .pre .1 .3 .node)
+read-value-of-type-add-inside t c = omega (arith, c .before .before .before .before .before .before .before .before .before .before .before .before .before .before .before .pre .1 .3 .node)
 
 read-value-of-type-sub-read-message : (t : ℕ) → read-value-of-type-lts.Need-sub-read-message (
   read-colon-reads.Asked,
@@ -1125,7 +1125,7 @@ read-value-of-type-sub-read-message : (t : ℕ) → read-value-of-type-lts.Need-
   put-body-reads.Asked,
   put-body-reads.Learnt,
 ) (read-value-of-type-at t) read-value-of-type.Post
-read-value-of-type-sub-read-message t c = omega (arith, c .before .if3 .left)
+read-value-of-type-sub-read-message t c = omega (arith, c .before .before .if3 .left)
 
 read-value-of-type-read-message-requires :
     (t : ℕ) → read-value-of-type-lts.Need-read-message-requires (
@@ -1143,9 +1143,9 @@ read-value-of-type-read-message-requires :
       put-body-reads.Learnt,
     ) (read-value-of-type-at t) read-value-of-type.Post
 read-value-of-type-read-message-requires t c κs =
-    let lt = child-falls (c .before .before .before .before .before .before .before .before .before .before .before .before .before .before .before .before .before .args .left) (now (c .before .before .before .before .before .before .before .before .before .before .before .before .before .before .before .before .before .args .image)) (now (c .before .before .before .before .before .before .before .before .before .before .before .before .before .before .before .before .before .args .s)) (c .before .before .before .before .before .before .before .before .before .before .before .before .before .before .before .before .before .args .w) (c .before .before .before .before .before .before .before .before .before .before .before .before .before .before .before .before .before .args .q) (c .before .before .before .before .before .before .before .before .before .before .before .if1 .left) (c .before .before .before .before .before .before .before .before .before .before .before .before .before .before .before .before .before .pre .1 .4 .most) _ _ (scanned _ _ _ _ (c .before .before .before .before .before .before .before .before .before .before .next-from .ensures) (c .before .before .before .before .before .before .before .before .st .given .1)) _ (c .before .before .before .before .before .closer-of .ensures) (c .before .before .before .before .if2 .left) (c .before .before .before .if3 .left) (c .before .before .before .before .before .before .before .before .before .before .before .before .before .before .before .before .before .pre .1 .2) in
-    let fa = child-fair (c .before .before .before .before .before .before .before .before .before .before .before .before .before .before .before .before .before .args .left) (now (c .before .before .before .before .before .before .before .before .before .before .before .before .before .before .before .before .before .args .image)) (now (c .before .before .before .before .before .before .before .before .before .before .before .before .before .before .before .before .before .args .s)) (c .before .before .before .before .before .before .before .before .before .before .before .before .before .before .before .before .before .args .w) (c .before .before .before .before .before .before .before .before .before .before .before .before .before .before .before .before .before .args .q) (c .before .before .before .before .before .before .before .before .before .before .before .if1 .left) (c .before .before .before .before .before .before .before .before .before .before .before .before .before .before .before .before .before .pre .1 .4 .most) _ _ (scanned _ _ _ _ (c .before .before .before .before .before .before .before .before .before .before .next-from .ensures) (c .before .before .before .before .before .before .before .before .st .given .1)) _ (c .before .before .before .before .before .closer-of .ensures) (c .before .before .before .before .if2 .left) (c .before .before .before .if3 .left) (c .before .before .before .before .before .before .before .before .before .before .before .before .before .before .before .before .before .pre .1 .2) in
-    (omega (arith, c .before .before .before .before .before .before .before .before .before .before .before .before .before .before .before .before .before .pre .0, lt, fa .inside), (c .before .before .before .before .before .before .before .before .before .before .before .before .before .before .before .before .before .pre .1 .0, c .before .before .before .before .before .before .before .before .before .before .before .before .before .before .before .before .before .pre .1 .1, fa, c .before .before .before .before .before .before .before .before .before .before .before .before .before .before .before .before .before .pre .1 .4, nests-high _ (c .before .before .before .before .before .before .before .before .before .before .before .if1 .left) (c .before .before .before .before .before .before .before .before .before .before .before .before .before .before .before .before .before .pre .1 .4 .most)))
+    let lt = child-falls (c .before .before .before .before .before .before .before .before .before .before .before .before .before .before .before .before .before .before .args .left) (now (c .before .before .before .before .before .before .before .before .before .before .before .before .before .before .before .before .before .before .args .image)) (now (c .before .before .before .before .before .before .before .before .before .before .before .before .before .before .before .before .before .before .args .s)) (c .before .before .before .before .before .before .before .before .before .before .before .before .before .before .before .before .before .before .args .w) (c .before .before .before .before .before .before .before .before .before .before .before .before .before .before .before .before .before .before .args .q) (c .before .before .before .before .before .before .before .before .before .before .before .before .if1 .left) (c .before .before .before .before .before .before .before .before .before .before .before .before .before .before .before .before .before .before .pre .1 .4 .most) _ _ (scanned _ _ _ _ _ (c .before .before .before .before .before .before .before .before .before .before .before .next-from .ensures) (c .before .before .before .before .before .before .before .before .before .st .given .1)) _ (c .before .before .before .before .before .before .closer-of .ensures) (c .before .before .before .before .before .if2 .left) (c .before .before .before .before .if3 .left) (c .before .before .before .before .before .before .before .before .before .before .before .before .before .before .before .before .before .before .pre .1 .2) in
+    let fa = child-fair (c .before .before .before .before .before .before .before .before .before .before .before .before .before .before .before .before .before .before .args .left) (now (c .before .before .before .before .before .before .before .before .before .before .before .before .before .before .before .before .before .before .args .image)) (now (c .before .before .before .before .before .before .before .before .before .before .before .before .before .before .before .before .before .before .args .s)) (c .before .before .before .before .before .before .before .before .before .before .before .before .before .before .before .before .before .before .args .w) (c .before .before .before .before .before .before .before .before .before .before .before .before .before .before .before .before .before .before .args .q) (c .before .before .before .before .before .before .before .before .before .before .before .before .if1 .left) (c .before .before .before .before .before .before .before .before .before .before .before .before .before .before .before .before .before .before .pre .1 .4 .most) _ _ (scanned _ _ _ _ _ (c .before .before .before .before .before .before .before .before .before .before .before .next-from .ensures) (c .before .before .before .before .before .before .before .before .before .st .given .1)) _ (c .before .before .before .before .before .before .closer-of .ensures) (c .before .before .before .before .before .if2 .left) (c .before .before .before .before .if3 .left) (c .before .before .before .before .before .before .before .before .before .before .before .before .before .before .before .before .before .before .pre .1 .2) (scanned-line _ _ _ _ _ (c .before .before .before .before .before .before .before .before .before .before .before .next-from .ensures) (c .before .before .before .before .before .before .before .before .before .st .given .1)) in
+    (omega (arith, c .before .before .before .before .before .before .before .before .before .before .before .before .before .before .before .before .before .before .pre .0, lt, fa .inside), (c .before .before .before .before .before .before .before .before .before .before .before .before .before .before .before .before .before .before .pre .1 .0, c .before .before .before .before .before .before .before .before .before .before .before .before .before .before .before .before .before .before .pre .1 .1, fa, c .before .before .before .before .before .before .before .before .before .before .before .before .before .before .before .before .before .before .pre .1 .4, nests-high _ (c .before .before .before .before .before .before .before .before .before .before .before .before .if1 .left) (c .before .before .before .before .before .before .before .before .before .before .before .before .before .before .before .before .before .before .pre .1 .4 .most)))
 
 read-value-of-type-enum-known-r : (t : ℕ) → read-value-of-type-lts.Need-enum-known-r (
   read-colon-reads.Asked,
@@ -1193,7 +1193,7 @@ read-value-of-type-same-length-3 : (t : ℕ) → read-value-of-type-lts.Need-sam
   put-body-reads.Asked,
   put-body-reads.Learnt,
 ) (read-value-of-type-at t) read-value-of-type.Post
-read-value-of-type-same-length-3 t c = c .before .before .before .before .before .before .read-message .kept .1 .1 .1 .1 .1 .1 .1 .1 .1 .0
+read-value-of-type-same-length-3 t c = c .before .before .before .before .before .before .read-message .kept .1 .1 .1 .1 .1 .1 .1 .1 .1 .1 .0
 
 read-value-of-type-same-length-4 : (t : ℕ) → read-value-of-type-lts.Need-same-length-4 (
   read-colon-reads.Asked,
@@ -1209,7 +1209,7 @@ read-value-of-type-same-length-4 : (t : ℕ) → read-value-of-type-lts.Need-sam
   put-body-reads.Asked,
   put-body-reads.Learnt,
 ) (read-value-of-type-at t) read-value-of-type.Post
-read-value-of-type-same-length-4 t c = c .before .before .before .before .before .before .read-message .kept .1 .1 .1 .1 .1 .1 .1 .1 .1 .1 .0
+read-value-of-type-same-length-4 t c = c .before .before .before .before .before .before .read-message .kept .1 .1 .1 .1 .1 .1 .1 .1 .1 .1 .1 .0
 
 read-value-of-type-returns-5 : (t : ℕ) → read-value-of-type-lts.Need-returns-5 (
   read-colon-reads.Asked,
@@ -1225,7 +1225,7 @@ read-value-of-type-returns-5 : (t : ℕ) → read-value-of-type-lts.Need-returns
   put-body-reads.Asked,
   put-body-reads.Learnt,
 ) (read-value-of-type-at t) read-value-of-type.Post
-read-value-of-type-returns-5 t c = nested-no _ _ _ (c .before .before .before .before .before .before .before .before .before .before .before .before .before .before .before .before .before .before .before .before .before .before .before .before .args .w) (c .before .before .before .before .before .before .before .before .before .before .before .before .before .before .before .before .before .before .before .before .before .before .before .before .args .q) (c .before .before .before .before .before .before .before .before .before .before .before .before .before .before .before .before .before .before .if1 .left) (c .before .before .before .before .before .before .before .before .before .before .before .before .before .before .before .before .before .before .before .before .before .before .before .before .pre .1 .4 .most) _ _ (scanned _ _ _ _ (c .before .before .before .before .before .before .before .before .before .before .before .before .before .before .before .before .before .next-from .ensures) (c .before .before .before .before .before .before .before .before .before .before .before .before .before .before .before .st .given .1)) _ (c .before .before .before .before .before .before .before .before .before .before .before .before .closer-of .ensures) (c .before .before .before .before .before .before .before .before .before .before .before .if2 .left) (c .before .before .before .before .before .before .before .before .before .before .if3 .left) (c .before .before .before .before .before .before .before .before .before .before .before .before .before .before .before .before .before .before .before .before .before .before .before .before .pre .1 .2) _ _ _ _ _ (c .before .before .before .before .before .before .read-message .ensures) _ _ (c .enum-told2 .given .1)
+read-value-of-type-returns-5 t c = nested-no _ _ _ (c .before .before .before .before .before .before .before .before .before .before .before .before .before .before .before .before .before .before .before .before .before .before .before .before .before .args .w) (c .before .before .before .before .before .before .before .before .before .before .before .before .before .before .before .before .before .before .before .before .before .before .before .before .before .args .q) (c .before .before .before .before .before .before .before .before .before .before .before .before .before .before .before .before .before .before .before .if1 .left) (c .before .before .before .before .before .before .before .before .before .before .before .before .before .before .before .before .before .before .before .before .before .before .before .before .before .pre .1 .4 .most) _ _ (scanned _ _ _ _ _ (c .before .before .before .before .before .before .before .before .before .before .before .before .before .before .before .before .before .before .next-from .ensures) (c .before .before .before .before .before .before .before .before .before .before .before .before .before .before .before .before .st .given .1)) _ (c .before .before .before .before .before .before .before .before .before .before .before .before .before .closer-of .ensures) (c .before .before .before .before .before .before .before .before .before .before .before .before .if2 .left) (c .before .before .before .before .before .before .before .before .before .before .before .if3 .left) (c .before .before .before .before .before .before .before .before .before .before .before .before .before .before .before .before .before .before .before .before .before .before .before .before .before .pre .1 .2) _ _ _ _ _ (c .before .before .before .before .before .before .read-message .ensures) _ _ (c .enum-told2 .given .1)
 
 read-value-of-type-put-body-requires : (t : ℕ) → read-value-of-type-lts.Need-put-body-requires (
   read-colon-reads.Asked,
@@ -1241,7 +1241,7 @@ read-value-of-type-put-body-requires : (t : ℕ) → read-value-of-type-lts.Need
   put-body-reads.Asked,
   put-body-reads.Learnt,
 ) (read-value-of-type-at t) read-value-of-type.Post
-read-value-of-type-put-body-requires t c κs = let z = nested-node _ _ _ (c .before .before .before .before .before .before .before .before .before .before .before .before .before .before .before .before .before .before .before .before .before .before .before .before .before .before .args .w) (c .before .before .before .before .before .before .before .before .before .before .before .before .before .before .before .before .before .before .before .before .before .before .before .before .before .before .args .q) (c .before .before .before .before .before .before .before .before .before .before .before .before .before .before .before .before .before .before .before .before .if1 .left) (c .before .before .before .before .before .before .before .before .before .before .before .before .before .before .before .before .before .before .before .before .before .before .before .before .before .before .pre .1 .4 .most) _ _ (scanned _ _ _ _ (c .before .before .before .before .before .before .before .before .before .before .before .before .before .before .before .before .before .before .before .next-from .ensures) (c .before .before .before .before .before .before .before .before .before .before .before .before .before .before .before .before .before .st .given .1)) _ (c .before .before .before .before .before .before .before .before .before .before .before .before .before .before .closer-of .ensures) (c .before .before .before .before .before .before .before .before .before .before .before .before .before .if2 .left) (c .before .before .before .before .before .before .before .before .before .before .before .before .if3 .left) (c .before .before .before .before .before .before .before .before .before .before .before .before .before .before .before .before .before .before .before .before .before .before .before .before .before .before .pre .1 .2) _ _ _ _ _ (c .before .before .before .before .before .before .before .before .read-message .ensures) _ (c .before .before .r .given .1) in (c .before .before .before .before .before .before .before .before .before .before .before .before .before .before .before .before .before .before .before .before .before .before .before .before .before .before .pre .1 .3 .field, omega (arith, z))
+read-value-of-type-put-body-requires t c κs = let z = nested-node _ _ _ (c .before .before .before .before .before .before .before .before .before .before .before .before .before .before .before .before .before .before .before .before .before .before .before .before .before .before .before .args .w) (c .before .before .before .before .before .before .before .before .before .before .before .before .before .before .before .before .before .before .before .before .before .before .before .before .before .before .before .args .q) (c .before .before .before .before .before .before .before .before .before .before .before .before .before .before .before .before .before .before .before .before .before .if1 .left) (c .before .before .before .before .before .before .before .before .before .before .before .before .before .before .before .before .before .before .before .before .before .before .before .before .before .before .before .pre .1 .4 .most) _ _ (scanned _ _ _ _ _ (c .before .before .before .before .before .before .before .before .before .before .before .before .before .before .before .before .before .before .before .before .next-from .ensures) (c .before .before .before .before .before .before .before .before .before .before .before .before .before .before .before .before .before .before .st .given .1)) _ (c .before .before .before .before .before .before .before .before .before .before .before .before .before .before .before .closer-of .ensures) (c .before .before .before .before .before .before .before .before .before .before .before .before .before .before .if2 .left) (c .before .before .before .before .before .before .before .before .before .before .before .before .before .if3 .left) (c .before .before .before .before .before .before .before .before .before .before .before .before .before .before .before .before .before .before .before .before .before .before .before .before .before .before .before .pre .1 .2) _ _ _ _ _ (c .before .before .before .before .before .before .before .before .read-message .ensures) _ (c .before .before .r .given .1) in (c .before .before .before .before .before .before .before .before .before .before .before .before .before .before .before .before .before .before .before .before .before .before .before .before .before .before .before .pre .1 .3 .field, omega (arith, z))
 
 read-value-of-type-same-length-5 : (t : ℕ) → read-value-of-type-lts.Need-same-length-5 (
   read-colon-reads.Asked,
@@ -1257,7 +1257,7 @@ read-value-of-type-same-length-5 : (t : ℕ) → read-value-of-type-lts.Need-sam
   put-body-reads.Asked,
   put-body-reads.Learnt,
 ) (read-value-of-type-at t) read-value-of-type.Post
-read-value-of-type-same-length-5 t c = c .before .before .put-body .kept .0 ∙ c .before .before .before .before .before .before .before .before .before .before .before .read-message .kept .1 .1 .1 .1 .1 .1 .1 .1 .1 .0
+read-value-of-type-same-length-5 t c = c .before .before .put-body .kept .0 ∙ c .before .before .before .before .before .before .before .before .before .before .before .read-message .kept .1 .1 .1 .1 .1 .1 .1 .1 .1 .1 .0
 
 read-value-of-type-same-length-6 : (t : ℕ) → read-value-of-type-lts.Need-same-length-6 (
   read-colon-reads.Asked,
@@ -1273,7 +1273,7 @@ read-value-of-type-same-length-6 : (t : ℕ) → read-value-of-type-lts.Need-sam
   put-body-reads.Asked,
   put-body-reads.Learnt,
 ) (read-value-of-type-at t) read-value-of-type.Post
-read-value-of-type-same-length-6 t c = c .before .before .before .before .before .before .before .before .before .before .before .read-message .kept .1 .1 .1 .1 .1 .1 .1 .1 .1 .1 .0
+read-value-of-type-same-length-6 t c = c .before .before .before .before .before .before .before .before .before .before .before .read-message .kept .1 .1 .1 .1 .1 .1 .1 .1 .1 .1 .1 .0
 
 read-value-of-type-returns-6 : (t : ℕ) → read-value-of-type-lts.Need-returns-6 (
   read-colon-reads.Asked,
@@ -1289,7 +1289,7 @@ read-value-of-type-returns-6 : (t : ℕ) → read-value-of-type-lts.Need-returns
   put-body-reads.Asked,
   put-body-reads.Learnt,
 ) (read-value-of-type-at t) read-value-of-type.Post
-read-value-of-type-returns-6 t c = nested-put _ _ _ (c .before .before .before .before .before .before .before .before .before .before .before .before .before .before .before .before .before .before .before .before .before .before .before .before .before .before .before .before .before .args .w) (c .before .before .before .before .before .before .before .before .before .before .before .before .before .before .before .before .before .before .before .before .before .before .before .before .before .before .before .before .before .args .q) (c .before .before .before .before .before .before .before .before .before .before .before .before .before .before .before .before .before .before .before .before .before .before .before .if1 .left) (c .before .before .before .before .before .before .before .before .before .before .before .before .before .before .before .before .before .before .before .before .before .before .before .before .before .before .before .before .before .pre .1 .4 .most) _ _ (scanned _ _ _ _ (c .before .before .before .before .before .before .before .before .before .before .before .before .before .before .before .before .before .before .before .before .before .before .next-from .ensures) (c .before .before .before .before .before .before .before .before .before .before .before .before .before .before .before .before .before .before .before .before .st .given .1)) _ (c .before .before .before .before .before .before .before .before .before .before .before .before .before .before .before .before .before .closer-of .ensures) (c .before .before .before .before .before .before .before .before .before .before .before .before .before .before .before .before .if2 .left) (c .before .before .before .before .before .before .before .before .before .before .before .before .before .before .before .if3 .left) (c .before .before .before .before .before .before .before .before .before .before .before .before .before .before .before .before .before .before .before .before .before .before .before .before .before .before .before .before .before .pre .1 .2) _ _ _ _ _ (c .before .before .before .before .before .before .before .before .before .before .before .read-message .ensures) _ (c .before .before .before .before .before .r .given .1) (c .before .before .before .before .before .before .before .before .before .before .before .read-message .kept .1 .1 .1 .1 .1 .1 .1 .1 .1 .0) _ (c .before .before .put-body .ensures)
+read-value-of-type-returns-6 t c = nested-put _ _ _ (c .before .before .before .before .before .before .before .before .before .before .before .before .before .before .before .before .before .before .before .before .before .before .before .before .before .before .before .before .before .before .args .w) (c .before .before .before .before .before .before .before .before .before .before .before .before .before .before .before .before .before .before .before .before .before .before .before .before .before .before .before .before .before .before .args .q) (c .before .before .before .before .before .before .before .before .before .before .before .before .before .before .before .before .before .before .before .before .before .before .before .before .if1 .left) (c .before .before .before .before .before .before .before .before .before .before .before .before .before .before .before .before .before .before .before .before .before .before .before .before .before .before .before .before .before .before .pre .1 .4 .most) _ _ (scanned _ _ _ _ _ (c .before .before .before .before .before .before .before .before .before .before .before .before .before .before .before .before .before .before .before .before .before .before .before .next-from .ensures) (c .before .before .before .before .before .before .before .before .before .before .before .before .before .before .before .before .before .before .before .before .before .st .given .1)) _ (c .before .before .before .before .before .before .before .before .before .before .before .before .before .before .before .before .before .before .closer-of .ensures) (c .before .before .before .before .before .before .before .before .before .before .before .before .before .before .before .before .before .if2 .left) (c .before .before .before .before .before .before .before .before .before .before .before .before .before .before .before .before .if3 .left) (c .before .before .before .before .before .before .before .before .before .before .before .before .before .before .before .before .before .before .before .before .before .before .before .before .before .before .before .before .before .before .pre .1 .2) _ _ _ _ _ (c .before .before .before .before .before .before .before .before .before .before .before .read-message .ensures) _ (c .before .before .before .before .before .r .given .1) (c .before .before .before .before .before .before .before .before .before .before .before .read-message .kept .1 .1 .1 .1 .1 .1 .1 .1 .1 .1 .0) _ (c .before .before .put-body .ensures)
 
 pub +merge-field+read-message+read-value-of-type-spec : {M : Type 1} → statement M
 +merge-field+read-message+read-value-of-type-spec =
@@ -1394,7 +1394,7 @@ pub +merge-field+read-message+read-value-of-type-spec : {M : Type 1} → stateme
     (read-value-of-type-closer-of-requires t)
     (read-value-of-type-returns-3 t)
     (read-value-of-type-returns-4 t)
-    (read-value-of-type-add-read-message t)
+    (read-value-of-type-add-inside t)
     (read-value-of-type-sub-read-message t)
     (read-value-of-type-read-message-requires t)
     (read-value-of-type-enum-known-r t)

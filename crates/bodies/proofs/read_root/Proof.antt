@@ -4,6 +4,9 @@ use Rattle.bodies.proofs.Origin.{origin-fair, root-fits}
 use borrow.Author.Needs.{needs}
 use Rattle.bodies.proofs.read_root.Statement.{statement}
 use Rattle.bodies.proofs.read_root.Tie as tie
+use Rattle.bodies.proofs.read_root.Reads as reads
+use Rattle.bodies.proofs.read_root.Lts as lts
+use Rattle.bodies.proofs.read_message.Reads as read-message-reads
 
 read-message-requires : tie.Need-read-message-requires
 read-message-requires c κs = (c .before .before .before .before .before .before .pre .0, c .before .before .before .before .before .before .pre .1, origin-fair _ (c .before .before .before .before .before .before .pre .3), root-fits _ _ (c .before .before .before .before .before .before .pre .2), refl)

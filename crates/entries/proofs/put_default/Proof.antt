@@ -10,8 +10,8 @@ use Rattle.entries.proofs.put_default.Tie as tie
 use Rattle.entries.proofs.put_default.Reads as reads
 use Rattle.entries.proofs.put_default.Lts as lts
 use Rattle.entries.proofs.is_run.Reads as is-run-reads
-use Rattle.leaves.proofs.put_number.Reads as put-number-reads
 use Rattle.leaves.proofs.widened.Reads as widened-reads
+use Rattle.leaves.proofs.put_number.Reads as put-number-reads
 use Rattle.records.proofs.enumeration.Reads as enumeration-reads
 use Rattle.records.proofs.member.Reads as member-reads
 
@@ -28,7 +28,7 @@ same-length : tie.Need-same-length
 same-length c = search needs
 
 returns : tie.Need-returns
-returns c = λ f. answers-by _ _ _ _ _ _ _ _ (default-run _ (c .before .before .before .before .before .before .before .before .args .w) (c .before .before .before .before .before .before .before .before .args .q) (sym (c .before .before .before .before .if1 .taken) ∙ c .before .before .before .before .before .is-run .ensures) ∙ empty-run (c .before .before .before .before .before .before .before .before .args .w) (c .before .before .before .before .before .before .before .before .args .q) (c .before .before .before .before .before .before .before .before .args .q .at)) (c .before .before .put-number .ensures f)
+returns c = λ s g f. answers-by _ _ _ _ _ _ _ _ (default-run _ (c .before .before .before .before .before .before .before .before .args .w) (c .before .before .before .before .before .before .before .before .args .q) (sym (c .before .before .before .before .if1 .taken) ∙ c .before .before .before .before .before .is-run .ensures) ∙ empty-run (c .before .before .before .before .before .before .before .before .args .w) (c .before .before .before .before .before .before .before .before .args .q) (c .before .before .before .before .before .before .before .before .args .q .at)) (c .before .before .put-number .ensures s g f)
 
 enumeration-requires : tie.Need-enumeration-requires
 enumeration-requires c κs = (known-placed (c .before .before .before .before .before .pre .0), c .before .before .before .before .before .pre .2 .enums (c .if2 .taken))
@@ -46,7 +46,7 @@ same-length-2 : tie.Need-same-length-2
 same-length-2 c = search needs
 
 returns-2 : tie.Need-returns-2
-returns-2 c = λ f. answers-by _ _ _ _ _ _ _ _ (default-enum _ (c .before .before .before .before .before .before .before .before .before .before .before .before .args .w) (c .before .before .before .before .before .before .before .before .before .before .before .before .args .q) (sym (c .before .before .before .before .before .before .before .before .if1 .left) ∙ c .before .before .before .before .before .before .before .before .before .is-run .ensures) (c .before .before .before .before .before .before .before .if2 .taken) ∙ rw (c .before .before .before .before .widened .ensures, c .before .before .before .before .before .member .ensures, c .before .before .before .before .before .before .enumeration .ensures) refl) (c .before .before .put-number2 .ensures f)
+returns-2 c = λ s g f. answers-by _ _ _ _ _ _ _ _ (default-enum _ (c .before .before .before .before .before .before .before .before .before .before .before .before .args .w) (c .before .before .before .before .before .before .before .before .before .before .before .before .args .q) (sym (c .before .before .before .before .before .before .before .before .if1 .left) ∙ c .before .before .before .before .before .before .before .before .before .is-run .ensures) (c .before .before .before .before .before .before .before .if2 .taken) ∙ rw (c .before .before .before .before .widened .ensures, c .before .before .before .before .before .member .ensures, c .before .before .before .before .before .before .enumeration .ensures) refl) (c .before .before .put-number2 .ensures s g f)
 
 put-number-requires-3 : tie.Need-put-number-requires-3
 put-number-requires-3 c κs = search needs
@@ -55,7 +55,7 @@ same-length-3 : tie.Need-same-length-3
 same-length-3 c = search needs
 
 returns-3 : tie.Need-returns-3
-returns-3 c = λ f. answers-by _ _ _ _ _ _ _ _ (default-zero _ (c .before .before .before .before .before .before .before .before .before .args .w) (c .before .before .before .before .before .before .before .before .before .args .q) (sym (c .before .before .before .before .before .if1 .left) ∙ c .before .before .before .before .before .before .is-run .ensures) (c .before .before .before .before .if2 .left)) (c .before .before .put-number3 .ensures f)
+returns-3 c = λ s g f. answers-by _ _ _ _ _ _ _ _ (default-zero _ (c .before .before .before .before .before .before .before .before .before .args .w) (c .before .before .before .before .before .before .before .before .before .args .q) (sym (c .before .before .before .before .before .if1 .left) ∙ c .before .before .before .before .before .before .is-run .ensures) (c .before .before .before .before .if2 .left)) (c .before .before .put-number3 .ensures s g f)
 
 pub put-default-spec : {M : Type 1} → statement M
 put-default-spec =

@@ -41,7 +41,7 @@ same-length : tie.Need-same-length
 same-length c = search needs
 
 returns-3 : tie.Need-returns-3
-returns-3 c = λ f. answers-by _ _ _ _ _ _ _ _ (integer-worth _ (c .before .before .before .before .before .before .before .before .before .before .before .before .before .before .args .w) _ _ (c .before .before .before .before .before .before .before .before .before .before .before .before .before .before .args .q) _ _ (c .before .before .before .before .before .before .before .before .before .if1 .left) _ (sym (c .before .before .before .before .before .v .given .1) ∙ c .before .before .before .before .before .before .before .integer .ensures)) (c .before .before .put-number .ensures f)
+returns-3 c = λ f. answers-by _ _ _ _ _ _ _ _ (integer-worth _ (c .before .before .before .before .before .before .before .before .before .before .before .before .before .before .args .w) _ _ (c .before .before .before .before .before .before .before .before .before .before .before .before .before .before .args .q) _ _ (c .before .before .before .before .before .before .before .before .before .if1 .left) _ (sym (c .before .before .before .before .before .v .given .1) ∙ c .before .before .before .before .before .before .before .integer .ensures)) (c .before .before .put-number .ensures _ (c .before .before .before .before .before .before .before .before .before .before .before .before .before .before .pre .2) f)
 
 pub read-integer-spec : {M : Type 1} → statement M
 read-integer-spec =

@@ -6,6 +6,15 @@ use Rattle.parse.proofs.Wholes.{empty-part, ends-no, ends-nodes, ends-b
 use borrow.Author.Needs.{needs}
 use Rattle.parse.proofs.read_text.Statement.{statement}
 use Rattle.parse.proofs.read_text.Tie as tie
+use Rattle.parse.proofs.read_text.Reads as reads
+use Rattle.parse.proofs.read_text.Lts as lts
+use Rattle.bodies.proofs.read_root.Reads as read-root-reads
+use Rattle.leaves.proofs.put_body.Reads as put-body-reads
+use Rattle.lexer.proofs.classes.table.Reads as table-reads
+use Rattle.parse.proofs.node_room.Reads as node-room-reads
+use Rattle.parse.proofs.refusal.Reads as refusal-reads
+use Rattle.parse.proofs.unplaced.Reads as unplaced-reads
+use Rattle.strings.proofs.escapes.Reads as escapes-reads
 
 table-requires : tie.Need-table-requires
 table-requires c κs = tt
@@ -49,6 +58,9 @@ returns c = ends-no (now (c .before .before .before .before .before .before .bef
 node-room-requires : tie.Need-node-room-requires
 node-room-requires c κs = tt
 
+unplaced-requires : tie.Need-unplaced-requires
+unplaced-requires c κs = tt
+
 same-length-3 : tie.Need-same-length-3
 same-length-3 c = search needs
 
@@ -56,7 +68,10 @@ same-length-4 : tie.Need-same-length-4
 same-length-4 c = search needs
 
 returns-2 : tie.Need-returns-2
-returns-2 c = ends-nodes (now (c .before .before .before .before .before .before .before .before .before .before .before .before .before .before .before .before .before .before .before .before .args .image)) (c .before .before .before .before .before .before .before .before .before .before .before .before .before .before .before .before .before .before .before .before .args .root) (now (c .before .before .before .before .before .before .before .before .before .before .before .before .before .before .before .before .before .before .before .before .args .s)) (now (c .before .before .before .before .before .before .before .before .before .before .before .before .before .before .before .before .before .before .before .before .args .nodes)) (now (c .before .before .before .before .before .before .before .before .before .before .before .before .before .before .before .before .before .before .before .before .args .pool)) _ _ _ _ _ (c .before .before .before .before .before .before .before .before .before .read-root .ensures) _ _ (empty-part (c .before .before .before .before .before .before .before .before .before .read-root .last .1 .1 .1 .1 .1 .1 .0) (c .before .before .before .before .before .before .before .before .before .before .before .before .before .before .before .before .before .before .before .before .args .nodes .now) (c .before .before .before .before .before .before .before .before .before .read-root .kept .1 .1 .1 .1 .1 .1 .0)) (empty-part (c .before .before .before .before .before .before .before .before .before .read-root .last .1 .1 .1 .1 .1 .1 .1 .0) (c .before .before .before .before .before .before .before .before .before .before .before .before .before .before .before .before .before .before .before .before .args .pool .now) (c .before .before .before .before .before .before .before .before .before .read-root .kept .1 .1 .1 .1 .1 .1 .1 .0)) _ (c .before .before .before .counted .given .1) _ (c .before .node-room .ensures) (c .if1 .taken)
+returns-2 c = rw (c .unplaced .ensures) (ends-nodes (now (c .before .before .before .before .before .before .before .before .before .before .before .before .before .before .before .before .before .before .before .before .before .args .image)) (c .before .before .before .before .before .before .before .before .before .before .before .before .before .before .before .before .before .before .before .before .before .args .root) (now (c .before .before .before .before .before .before .before .before .before .before .before .before .before .before .before .before .before .before .before .before .before .args .s)) (now (c .before .before .before .before .before .before .before .before .before .before .before .before .before .before .before .before .before .before .before .before .before .args .nodes)) (now (c .before .before .before .before .before .before .before .before .before .before .before .before .before .before .before .before .before .before .before .before .before .args .pool)) _ _ _ _ _ (c .before .before .before .before .before .before .before .before .before .before .read-root .ensures) _ _ (empty-part (c .before .before .before .before .before .before .before .before .before .before .read-root .last .1 .1 .1 .1 .1 .1 .0) (c .before .before .before .before .before .before .before .before .before .before .before .before .before .before .before .before .before .before .before .before .before .args .nodes .now) (c .before .before .before .before .before .before .before .before .before .before .read-root .kept .1 .1 .1 .1 .1 .1 .0)) (empty-part (c .before .before .before .before .before .before .before .before .before .before .read-root .last .1 .1 .1 .1 .1 .1 .1 .0) (c .before .before .before .before .before .before .before .before .before .before .before .before .before .before .before .before .before .before .before .before .before .args .pool .now) (c .before .before .before .before .before .before .before .before .before .before .read-root .kept .1 .1 .1 .1 .1 .1 .1 .0)) _ (c .before .before .before .before .counted .given .1) _ (c .before .before .node-room .ensures) (c .before .if1 .taken))
+
+unplaced-requires-2 : tie.Need-unplaced-requires-2
+unplaced-requires-2 c κs = tt
 
 same-length-5 : tie.Need-same-length-5
 same-length-5 c = search needs
@@ -65,7 +80,7 @@ same-length-6 : tie.Need-same-length-6
 same-length-6 c = search needs
 
 returns-3 : tie.Need-returns-3
-returns-3 c = ends-bytes (now (c .before .before .before .before .before .before .before .before .before .before .before .before .before .before .before .before .before .before .before .before .before .args .image)) (c .before .before .before .before .before .before .before .before .before .before .before .before .before .before .before .before .before .before .before .before .before .args .root) (now (c .before .before .before .before .before .before .before .before .before .before .before .before .before .before .before .before .before .before .before .before .before .args .s)) (now (c .before .before .before .before .before .before .before .before .before .before .before .before .before .before .before .before .before .before .before .before .before .args .nodes)) (now (c .before .before .before .before .before .before .before .before .before .before .before .before .before .before .before .before .before .before .before .before .before .args .pool)) _ _ _ _ _ (c .before .before .before .before .before .before .before .before .before .before .read-root .ensures) _ _ (empty-part (c .before .before .before .before .before .before .before .before .before .before .read-root .last .1 .1 .1 .1 .1 .1 .0) (c .before .before .before .before .before .before .before .before .before .before .before .before .before .before .before .before .before .before .before .before .before .args .nodes .now) (c .before .before .before .before .before .before .before .before .before .before .read-root .kept .1 .1 .1 .1 .1 .1 .0)) (empty-part (c .before .before .before .before .before .before .before .before .before .before .read-root .last .1 .1 .1 .1 .1 .1 .1 .0) (c .before .before .before .before .before .before .before .before .before .before .before .before .before .before .before .before .before .before .before .before .before .args .pool .now) (c .before .before .before .before .before .before .before .before .before .before .read-root .kept .1 .1 .1 .1 .1 .1 .1 .0)) _ (c .before .before .before .before .counted .given .1) _ (c .before .before .node-room .ensures) (c .before .if1 .left) (c .if2 .taken)
+returns-3 c = rw (c .unplaced2 .ensures) (ends-bytes (now (c .before .before .before .before .before .before .before .before .before .before .before .before .before .before .before .before .before .before .before .before .before .before .args .image)) (c .before .before .before .before .before .before .before .before .before .before .before .before .before .before .before .before .before .before .before .before .before .before .args .root) (now (c .before .before .before .before .before .before .before .before .before .before .before .before .before .before .before .before .before .before .before .before .before .before .args .s)) (now (c .before .before .before .before .before .before .before .before .before .before .before .before .before .before .before .before .before .before .before .before .before .before .args .nodes)) (now (c .before .before .before .before .before .before .before .before .before .before .before .before .before .before .before .before .before .before .before .before .before .before .args .pool)) _ _ _ _ _ (c .before .before .before .before .before .before .before .before .before .before .before .read-root .ensures) _ _ (empty-part (c .before .before .before .before .before .before .before .before .before .before .before .read-root .last .1 .1 .1 .1 .1 .1 .0) (c .before .before .before .before .before .before .before .before .before .before .before .before .before .before .before .before .before .before .before .before .before .before .args .nodes .now) (c .before .before .before .before .before .before .before .before .before .before .before .read-root .kept .1 .1 .1 .1 .1 .1 .0)) (empty-part (c .before .before .before .before .before .before .before .before .before .before .before .read-root .last .1 .1 .1 .1 .1 .1 .1 .0) (c .before .before .before .before .before .before .before .before .before .before .before .before .before .before .before .before .before .before .before .before .before .before .args .pool .now) (c .before .before .before .before .before .before .before .before .before .before .before .read-root .kept .1 .1 .1 .1 .1 .1 .1 .0)) _ (c .before .before .before .before .before .counted .given .1) _ (c .before .before .before .node-room .ensures) (c .before .before .if1 .left) (c .before .if2 .taken))
 
 read-root-requires-2 : tie.Need-read-root-requires-2
 read-root-requires-2 c κs = ((c .before .before .before .before .before .before .before .before .before .before .before .before .before .before .before .before .before .before .before .before .table .ensures, c .before .before .before .before .before .before .before .before .before .before .before .before .before .before .before .before .before .before .before .escapes .ensures), c .before .before .before .before .before .before .before .before .before .before .before .before .before .before .before .before .before .before .before .before .before .before .before .before .before .pre .0, c .before .before .before .before .before .before .before .before .before .before .before .before .before .before .before .before .before .before .before .before .before .before .before .before .before .pre .1, c .before .before .before .before .before .before .before .before .before .before .before .before .before .before .before .before .before .before .before .before .before .before .before .before .before .pre .2)
@@ -100,9 +115,11 @@ read-text-spec =
     same-length-2
     returns
     node-room-requires
+    unplaced-requires
     same-length-3
     same-length-4
     returns-2
+    unplaced-requires-2
     same-length-5
     same-length-6
     returns-3

@@ -4,6 +4,13 @@ use Rattle.leaves.proofs.Steps.{scalar-signed, scalar-unsigned, scalar-bool, sc
 use borrow.Author.Needs.{needs}
 use Rattle.scalars.proofs.read_scalar.Statement.{statement}
 use Rattle.scalars.proofs.read_scalar.Tie as tie
+use Rattle.scalars.proofs.read_scalar.Reads as reads
+use Rattle.scalars.proofs.read_scalar.Lts as lts
+use Rattle.numbers.proofs.read_signed.Reads as read-signed-reads
+use Rattle.numbers.proofs.read_unsigned.Reads as read-unsigned-reads
+use Rattle.scalars.proofs.names.read_bool.Reads as read-bool-reads
+use Rattle.scalars.proofs.names.read_enum.Reads as read-enum-reads
+use Rattle.scalars.proofs.runs.read_string.Reads as read-string-reads
 
 read-signed-requires : tie.Need-read-signed-requires
 read-signed-requires c κs = (c .before .before .before .before .before .before .pre .0 .0, c .before .before .before .before .before .before .pre .2, c .before .before .before .before .before .before .pre .3)

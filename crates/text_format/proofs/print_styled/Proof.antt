@@ -1,16 +1,17 @@
 -- `text_format::print_styled` meets its contract: barred, too long for the buffer, or printed.
 use denote.Ref.{now}
-use borrow.Author.Needs.{needs}
 use mathlib.Core.Path.{_≡_, refl, sym, _∙_}
 use native.Mathlib.Omega.{arith}
 use Rattle.records.proofs.Accepted.{accepted-header}
 use Rattle.fields.specs.Fields.{styleOf}
 use Rattle.text_format.proofs.Tables.{bar-free, bar-some}
 use Rattle.text_format.proofs.Prints.{empty-part, print-barred, print-short, print-made}
+use borrow.Author.Needs.{needs}
 use Rattle.text_format.proofs.print_styled.Statement.{statement}
 use Rattle.text_format.proofs.print_styled.Tie as tie
 use Rattle.text_format.proofs.print_styled.Reads as reads
 use Rattle.text_format.proofs.print_styled.Lts as lts
+use Rattle.parse.proofs.unplaced.Reads as unplaced-reads
 use Rattle.print.proofs.text.print_text.Reads as print-text-reads
 use Rattle.records.proofs.layout_of.Reads as layout-of-reads
 use Rattle.text_format.proofs.table_bar.Reads as table-bar-reads
@@ -33,11 +34,14 @@ slice-aggregate-print-text c = search needs
 print-text-requires : tie.Need-print-text-requires
 print-text-requires c κs = (record { right = c .before .layout-of .ensures; good = (bar-free (now (c .before .before .before .before .before .before .before .before .args .image)) (c .before .before .before .before .before .before .before .before .args .root) (now (c .before .before .before .before .before .before .before .before .args .nodes)) (now (c .before .before .before .before .before .before .before .before .args .pool)) _ (c .before .before .before .table-bar .ensures) (c .before .before .if1 .left)) .good }, (bar-free (now (c .before .before .before .before .before .before .before .before .args .image)) (c .before .before .before .before .before .before .before .before .args .root) (now (c .before .before .before .before .before .before .before .before .args .nodes)) (now (c .before .before .before .before .before .before .before .before .args .pool)) _ (c .before .before .before .table-bar .ensures) (c .before .before .if1 .left)) .rooted, (bar-free (now (c .before .before .before .before .before .before .before .before .args .image)) (c .before .before .before .before .before .before .before .before .args .root) (now (c .before .before .before .before .before .before .before .before .args .nodes)) (now (c .before .before .before .before .before .before .before .before .args .pool)) _ (c .before .before .before .table-bar .ensures) (c .before .before .if1 .left)) .valued)
 
+unplaced-requires : tie.Need-unplaced-requires
+unplaced-requires c κs = tt
+
 same-length : tie.Need-same-length
 same-length c = search needs
 
 returns-2 : tie.Need-returns-2
-returns-2 c = print-short (now (c .before .before .before .before .before .before .before .before .before .before .before .before .args .image)) (styleOf (c .before .before .before .before .before .before .before .before .before .before .before .before .args .pretty)) (c .before .before .before .before .before .before .before .before .before .before .before .before .args .root) (now (c .before .before .before .before .before .before .before .before .before .before .before .before .args .nodes)) (now (c .before .before .before .before .before .before .before .before .before .before .before .before .args .pool)) (now (c .before .before .before .before .before .before .before .before .before .before .before .before .args .buffer)) (bar-free (now (c .before .before .before .before .before .before .before .before .before .before .before .before .args .image)) (c .before .before .before .before .before .before .before .before .before .before .before .before .args .root) (now (c .before .before .before .before .before .before .before .before .before .before .before .before .args .nodes)) (now (c .before .before .before .before .before .before .before .before .before .before .before .before .args .pool)) _ (c .before .before .before .before .before .before .before .table-bar .ensures) (c .before .before .before .before .before .before .if1 .left)) _ _ _ _ (c .before .before .before .print-text .ensures) (empty-part (c .before .before .before .print-text .last .1 .1 .1 .1 .1 .1 .0) (c .before .before .before .before .before .before .before .before .before .before .before .before .args .buffer .now) (c .before .before .before .print-text .kept .1 .1 .1 .1 .1 .1 .0)) (c .if2 .taken)
+returns-2 c = rw (c .unplaced .ensures) (print-short (now (c .before .before .before .before .before .before .before .before .before .before .before .before .before .args .image)) (styleOf (c .before .before .before .before .before .before .before .before .before .before .before .before .before .args .pretty)) (c .before .before .before .before .before .before .before .before .before .before .before .before .before .args .root) (now (c .before .before .before .before .before .before .before .before .before .before .before .before .before .args .nodes)) (now (c .before .before .before .before .before .before .before .before .before .before .before .before .before .args .pool)) (now (c .before .before .before .before .before .before .before .before .before .before .before .before .before .args .buffer)) (bar-free (now (c .before .before .before .before .before .before .before .before .before .before .before .before .before .args .image)) (c .before .before .before .before .before .before .before .before .before .before .before .before .before .args .root) (now (c .before .before .before .before .before .before .before .before .before .before .before .before .before .args .nodes)) (now (c .before .before .before .before .before .before .before .before .before .before .before .before .before .args .pool)) _ (c .before .before .before .before .before .before .before .before .table-bar .ensures) (c .before .before .before .before .before .before .before .if1 .left)) _ _ _ _ (c .before .before .before .before .print-text .ensures) (empty-part (c .before .before .before .before .print-text .last .1 .1 .1 .1 .1 .1 .0) (c .before .before .before .before .before .before .before .before .before .before .before .before .before .args .buffer .now) (c .before .before .before .before .print-text .kept .1 .1 .1 .1 .1 .1 .0)) (c .before .if2 .taken))
 
 print-text-requires-2 : tie.Need-print-text-requires-2
 print-text-requires-2 c κs = (record { right = c .before .before .before .before .before .before .layout-of .ensures; good = (bar-free (now (c .before .before .before .before .before .before .before .before .before .before .before .before .before .args .image)) (c .before .before .before .before .before .before .before .before .before .before .before .before .before .args .root) (now (c .before .before .before .before .before .before .before .before .before .before .before .before .before .args .nodes)) (now (c .before .before .before .before .before .before .before .before .before .before .before .before .before .args .pool)) _ (c .before .before .before .before .before .before .before .before .table-bar .ensures) (c .before .before .before .before .before .before .before .if1 .left)) .good }, (bar-free (now (c .before .before .before .before .before .before .before .before .before .before .before .before .before .args .image)) (c .before .before .before .before .before .before .before .before .before .before .before .before .before .args .root) (now (c .before .before .before .before .before .before .before .before .before .before .before .before .before .args .nodes)) (now (c .before .before .before .before .before .before .before .before .before .before .before .before .before .args .pool)) _ (c .before .before .before .before .before .before .before .before .table-bar .ensures) (c .before .before .before .before .before .before .before .if1 .left)) .rooted, (bar-free (now (c .before .before .before .before .before .before .before .before .before .before .before .before .before .args .image)) (c .before .before .before .before .before .before .before .before .before .before .before .before .before .args .root) (now (c .before .before .before .before .before .before .before .before .before .before .before .before .before .args .nodes)) (now (c .before .before .before .before .before .before .before .before .before .before .before .before .before .args .pool)) _ (c .before .before .before .before .before .before .before .before .table-bar .ensures) (c .before .before .before .before .before .before .before .if1 .left)) .valued)
@@ -58,6 +62,7 @@ print-styled-spec =
     slice-relend-prefix-print-text
     slice-aggregate-print-text
     print-text-requires
+    unplaced-requires
     same-length
     returns-2
     print-text-requires-2

@@ -1,6 +1,6 @@
 //! Both cases of demand 3, and what an older schema makes of a text that it isn't made for.
 
-use super::helpers::{Model, AMPLE};
+use super::helpers::{placed, Model, AMPLE};
 use super::schemas::{FieldOf, Image, ValueOf, MAP, OPTIONAL, REPEATED};
 use crate::carry::{carry, Carried, Load, Rooms};
 use crate::print::Style;
@@ -42,8 +42,8 @@ fn carried(newer: &Image, older: &Image, text: &str, style: Style) -> String {
         bytes: AMPLE,
     };
     match carry(&from.schema, &to.schema, 0, load, style, rooms) {
-        Carried::NotPrinted(refusal) => format!("print {} {}", refusal.number, refusal.at),
-        Carried::NotRead(refusal, _) => format!("read {} {}", refusal.number, refusal.at),
+        Carried::NotPrinted(refusal) => format!("print {}", placed(refusal)),
+        Carried::NotRead(refusal, _) => format!("read {}", placed(refusal)),
         Carried::Made(reading, _) => {
             let words = reading.nodes.iter().flat_map(|n| n.words()).collect();
             to.compact(&(words, reading.pool))
@@ -75,25 +75,29 @@ fn all_live_names_known() {
 
 #[test]
 fn the_first_name_that_is_lacking() {
-    both("extra: 4 id: 1", "read 6 6", "read 6 6");
-    both("id: 1 mode: ECO", "read 7 12", "read 7 12");
+    both("extra: 4 id: 1", "read 6 6 1:7", "read 6 6 2:1");
+    both("id: 1 mode: ECO", "read 7 12 1:13", "read 7 12 2:7");
     both(
         "limits {key: 'a' value {hue: ECO}}",
-        "read 6 24",
-        "read 6 34",
+        "read 6 24 1:25",
+        "read 6 34 4:5",
     );
-    both("extra: 1 mode: ECO", "read 6 0", "read 6 0");
-    both("child {mode: ECO} mode: ON", "read 7 22", "read 7 25");
+    both("extra: 1 mode: ECO", "read 6 0 1:1", "read 6 0 1:1");
+    both(
+        "child {mode: ECO} mode: ON",
+        "read 7 22 1:23",
+        "read 7 25 3:9",
+    );
 }
 
 #[test]
 fn a_schema_that_does_not_extend_the_other() {
     let of = |kind: u32| Image::new(&[&[("a", 1, OPTIONAL, 0, kind, 0)]], &[]);
     for (from, to, text, told) in [
-        (I64, I32, "a: 2147483648", "read 9 3"),
-        (I32, BOOL, "a: 1", "read 10 3"),
-        (I32, STRING, "a: 1", "read 5 3"),
-        (BYTES, STRING, "a: '\\377'", "read 11 3"),
+        (I64, I32, "a: 2147483648", "read 9 3 1:4"),
+        (I32, BOOL, "a: 1", "read 10 3 1:4"),
+        (I32, STRING, "a: 1", "read 5 3 1:4"),
+        (BYTES, STRING, "a: '\\377'", "read 11 3 1:4"),
         (I32, I64, "a: -1", "a: -1"),
     ] {
         let outcome = carried(&of(from), &of(to), text, Style::Compact);

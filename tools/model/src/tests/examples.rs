@@ -102,7 +102,7 @@ fn room_short_by_one() {
     let text = b"name: 'abc' limits {}";
     let ask = |words, bytes| match read(&model.schema, 0, text, words, bytes) {
         Ok(_) => (0, 0),
-        Err(refusal) => (refusal.number, refusal.at),
+        Err(refusal) => (refusal.number, refusal.place.offset),
     };
     assert_eq!(ask(25, 3), (0, 0));
     assert_eq!(ask(24, 3), (13, 5));
@@ -111,7 +111,10 @@ fn room_short_by_one() {
     let (words, pool) = model.table("name: 'abc'");
     let put = |room| print(&model.schema, 0, &words, &pool, Style::Compact, room);
     assert_eq!(put(11), Ok(b"name: \"abc\"".to_vec()));
-    assert_eq!(put(10).map_err(|r| (r.number, r.at)), Err((16, 11)));
+    assert_eq!(
+        put(10).map_err(|r| (r.number, r.place.offset)),
+        Err((16, 11))
+    );
 }
 
 #[test]

@@ -3,7 +3,7 @@
 use super::schemas::Image;
 use crate::parse::{read, Reading};
 use crate::print::{print, Style};
-use crate::refusal::Refusal;
+use crate::refusal::{Place, Refusal};
 use crate::required::required;
 use crate::schema::{accept, Schema};
 use crate::table::{access, Node};
@@ -23,8 +23,15 @@ pub fn words_of(nodes: &[[u32; 5]]) -> Vec<u32> {
     nodes.iter().flatten().copied().collect()
 }
 
-fn told(refusal: Refusal) -> String {
-    format!("{} {}", refusal.number, refusal.at)
+/// Number and offset, or the number that stands in its place.
+pub fn told(refusal: Refusal) -> String {
+    format!("{} {}", refusal.number, refusal.place.offset)
+}
+
+/// The same with `line:column`.
+pub fn placed(refusal: Refusal) -> String {
+    let Place { line, column, .. } = refusal.place;
+    format!("{} {line}:{column}", told(refusal))
 }
 
 impl Model {
@@ -39,7 +46,7 @@ impl Model {
         read(&self.schema, self.root, text, AMPLE, AMPLE)
     }
 
-    /// `read`, or the refusal's number and place.
+    /// `read`, or the refusal's number and offset.
     pub fn outcome(&self, text: &[u8]) -> String {
         match self.read(text) {
             Ok(_) => "read".to_string(),

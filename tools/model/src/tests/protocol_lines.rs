@@ -22,7 +22,13 @@ fn all_starts_empty() {
     let all = answers(&["T 5 0 -", "C 0", "Y 0", "Q", "A 0"]);
     assert_eq!(
         all,
-        ["T 1 0 kept", "C 1 0 kept", "Y 1 0 kept", "Q 1 0", "A 1 0"]
+        [
+            "T 1 0 0 0 kept",
+            "C 1 0 0 0 kept",
+            "Y 1 0 0 0 kept",
+            "Q 1 0 0 0",
+            "A 1 0 0 0"
+        ]
     );
 }
 
@@ -47,14 +53,14 @@ fn a_read_is_the_state_after_it() {
     assert_eq!(
         all,
         [
-            "C 15 0 kept".to_string(),
+            "C 15 0 0 0 kept".to_string(),
             format!("T 0 0 2 1 {table}00000002 61 kept"),
             "C 0 0 9 6e616d653a20226122 kept".to_string(),
             "A 0 0 61".to_string(),
             "Q 0 0".to_string(),
-            "T 6 0 kept".to_string(),
+            "T 6 0 1 1 kept".to_string(),
             "C 0 0 9 6e616d653a20226122 kept".to_string(),
-            "C 15 0 kept".to_string(),
+            "C 15 0 0 0 kept".to_string(),
         ]
     );
 }
@@ -83,12 +89,12 @@ fn a_carry_answers_the_whole_buffer_and_leaves_the_state() {
     assert_eq!(
         all,
         [
-            "X print 1 0 a5a5 kept".to_string(),
+            "X print 1 0 0 0 a5a5 kept".to_string(),
             format!("T 0 0 2 1 {table} 61 kept"),
-            format!("X read 1 0 {text} kept"),
-            "X print 16 9 a5a5a5a5a5a5a5a5 kept".to_string(),
-            format!("X read 13 2 {text}0aa5 kept"),
-            format!("X read 14 1 {text}0aa5 kept"),
+            format!("X read 1 0 0 0 {text} kept"),
+            "X print 16 9 0 0 a5a5a5a5a5a5a5a5 kept".to_string(),
+            format!("X read 13 2 0 0 {text}0aa5 kept"),
+            format!("X read 14 1 0 0 {text}0aa5 kept"),
             format!("X 0 0 2 1 {table} 61 {text}0aa5 kept"),
             format!("C 0 0 9 {text} kept"),
         ]

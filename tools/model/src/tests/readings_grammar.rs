@@ -163,7 +163,7 @@ fn d3_counting() {
 fn told(model: &Model, text: &[u8], words: u64, bytes: u64) -> (u32, u64) {
     match read(&model.schema, model.root, text, words, bytes) {
         Ok(_) => (0, 0),
-        Err(refusal) => (refusal.number, refusal.at),
+        Err(refusal) => (refusal.number, refusal.place.offset),
     }
 }
 

@@ -106,7 +106,7 @@ fn i12_root() {
     let schema = accept(&e().bytes());
     for root in [1, 255, 256, 4_294_967_295] {
         let refusal = read(&schema, root, b"", AMPLE, AMPLE).unwrap_err();
-        assert_eq!((refusal.number, refusal.at), (2, 0));
+        assert_eq!((refusal.number, refusal.place.offset), (2, 0));
     }
 }
 

@@ -1,4 +1,4 @@
-//! Images built from records: schema E of document 01, and X of the readings.
+//! Images built from records: schema E of document 01, and X and N of the readings.
 
 /// Name, number, label, key type, type, reference.
 pub type FieldOf = (&'static str, u32, u32, u32, u32, u32);
@@ -117,6 +117,11 @@ pub fn retyped(kind: u32) -> Image {
 
 pub fn e() -> Image {
     retyped(1)
+}
+
+pub fn n() -> Image {
+    let fields = [("m", 1, OPTIONAL, 0, 9, 0), ("mm", 2, MAP, 6, 9, 0)];
+    Image::new(&[&fields], &[])
 }
 
 const X0: [FieldOf; 19] = [

@@ -1,10 +1,14 @@
 -- `lexer::tokens::string` meets its contract, by whether a quote closes the string.
 use mathlib.Core.Path.{sym, _∙_, ap}
-use borrow.Author.Needs.{needs}
-use Rattle.lexer.specs.Steps.{stepOf}
+use Rattle.lexer.specs.Steps.{onLine}
 use Rattle.lexer.proofs.Laws.{string-bad, string-good}
+use borrow.Author.Needs.{needs}
 use Rattle.lexer.proofs.tokens.string.Statement.{statement}
 use Rattle.lexer.proofs.tokens.string.Tie as tie
+use Rattle.lexer.proofs.tokens.string.Reads as reads
+use Rattle.lexer.proofs.tokens.string.Lts as lts
+use Rattle.lexer.proofs.tokens.string_end.Reads as string-end-reads
+use Rattle.lexer.proofs.tokens.token.Reads as token-reads
 
 add-string-end : tie.Need-add-string-end
 add-string-end c = search needs
@@ -18,17 +22,14 @@ enum-known-next c = search needs
 enum-told : tie.Need-enum-told
 enum-told c = search needs
 
-bad-requires : tie.Need-bad-requires
-bad-requires c κs = tt
-
 returns : tie.Need-returns
-returns c = c .bad .ensures ∙ ap stepOf (string-bad (c .before .before .before .before .before .args .quote) (c .before .before .before .before .before .args .text .now) (c .before .before .before .before .before .args .at) (sym (c .before .before .before .string-end .ensures) ∙ c .before .enum-told .given .1))
+returns c = ap (onLine (c .before .before .before .before .args .line)) (string-bad (c .before .before .before .before .args .quote) (c .before .before .before .before .args .text .now) (c .before .before .before .before .args .start) (sym (c .before .before .string-end .ensures) ∙ c .enum-told .given .1))
 
 token-requires : tie.Need-token-requires
 token-requires c κs = tt
 
 returns-2 : tie.Need-returns-2
-returns-2 c = c .token .ensures ∙ ap stepOf (string-good (c .before .before .before .before .before .before .args .quote) (c .before .before .before .before .before .before .args .text .now) (c .before .before .before .before .before .before .args .at) _ (sym (c .before .before .before .before .string-end .ensures) ∙ c .before .before .next .given .1))
+returns-2 c = c .token .ensures ∙ ap (onLine (c .before .before .before .before .before .before .args .line)) (string-good (c .before .before .before .before .before .before .args .quote) (c .before .before .before .before .before .before .args .text .now) (c .before .before .before .before .before .before .args .start) _ (sym (c .before .before .before .before .string-end .ensures) ∙ c .before .before .next .given .1))
 
 pub string-spec : {M : Type 1} → statement M
 string-spec =
@@ -38,7 +39,6 @@ string-spec =
     string-end-requires
     enum-known-next
     enum-told
-    bad-requires
     returns
     token-requires
     returns-2)
