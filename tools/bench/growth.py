@@ -1,6 +1,6 @@
 """Inputs that grow in one thing: the text, the fields of a message, the children of a message, the entries of a map, the depth."""
 import input
-from images import I32, OPTIONAL, REQUIRED, U32, Image
+from packing import I32, OPTIONAL, REQUIRED, U32, Image
 
 
 def text_sizes():

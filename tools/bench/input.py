@@ -5,8 +5,8 @@ The schema is that of the C++ measurement: one enum of four values, and one mess
 import pathlib
 import sys
 
-sys.path.insert(0, str(pathlib.Path(__file__).resolve().parent.parent / 'vectors'))
-from images import BOOL, BYTES, ENUM, I32, I64, MAP, MESSAGE, OPTIONAL, REPEATED, STRING, U32, U64, Image  # noqa: E402
+sys.path.insert(0, str(pathlib.Path(__file__).resolve().parent.parent / 'schema'))
+from packing import BOOL, BYTES, ENUM, I32, I64, MAP, MESSAGE, OPTIONAL, REPEATED, STRING, U32, U64, Image  # noqa: E402
 
 NODE = [
     ('id', 1, OPTIONAL, 0, I32, 0),
