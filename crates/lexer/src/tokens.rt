@@ -295,7 +295,7 @@ impl Cursor {
         }
     }
 
-    // The next token, or the end of the text. Only what separates holds a newline, so lines are counted here and nowhere else.
+    // The next token, or the end of the text. Only what separates holds a newline, so reading counts lines here and nowhere else.
     pub fn next(self, text: &[u8], table: &[u8; 256]) -> Step
         requires { ⌜ (now table ≡ classes) × Located (now text) self ⌝ }
         ensures { λ r. ⌜ r ≡ stepOf (now (text .entry)) (scan (now (text .entry)) (self .at)) ⌝ }

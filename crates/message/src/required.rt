@@ -24,7 +24,7 @@ ghost use Rattle.records.specs.Known.{Known};
 ghost use Rattle.nodes.specs.Span.{There, Sound};
 
 // A value of that rank stands among the siblings from `from` up to `to`, whatever the pool holds.
-fn has(nodes: &[u32], wanted: usize, from: usize, to: usize) -> bool
+pub fn has(nodes: &[u32], wanted: usize, from: usize, to: usize) -> bool
     requires { ⌜ (tiles (now nodes) from to ≡ true) × (5 * to ≤ length (now nodes)) ⌝ }
     ensures { λ r. ⌜ ((pool : List ℕ) → r ≡ live.has wanted (live.treeOf pool (forest (now (nodes .entry)) from to))) ⌝ }
 {

@@ -5,14 +5,14 @@ use session::rooms::Image;
 use session::rooms::Input;
 use session::rooms::LINE_LENGTH;
 use session::rooms::Line;
-use session::rooms::OUT_LENGTH;
-use session::rooms::Out;
 use session::rooms::POOL_LENGTH;
 use session::rooms::Pool;
 use session::rooms::TABLE_LENGTH;
 use session::rooms::Table;
 use session::rooms::WORDS_LENGTH;
 use session::rooms::Words;
+use streams::out::OUT_LENGTH;
+use streams::out::Out;
 
 pub fn out() -> Out {
     [0; OUT_LENGTH]

@@ -1,17 +1,18 @@
 // The requests over table and pool: C, Y, Q and A. None of them changes the state.
-use crate::line;
-use crate::number;
-use crate::number::Number;
-use crate::out;
+use crate::figures;
 use crate::rooms::Image;
-use crate::rooms::Out;
 use crate::rooms::Pool;
 use crate::rooms::Table;
 use crate::state;
 use crate::state::Answer;
 use crate::state::State;
+use crate::tell;
 use crate::text;
 use definitions::Place;
+use streams::line;
+use streams::number::Number;
+use streams::out;
+use streams::out::Out;
 use text_format::Checked;
 use text_format::Printed;
 use text_format::Valued;
@@ -25,22 +26,22 @@ fn granted(buf: &mut Out, letter: u8) -> usize {
 // The letter and `NO AT LINE COL`.
 fn denied(buf: &mut Out, letter: u8, no: usize, place: Place) -> usize {
     let a = out::byte(buf, 0, letter);
-    out::refusal(buf, a, no, place)
+    tell::refusal(buf, a, no, place)
 }
 
 // `C 0 0 LENGTH HEX KEPT`. Where the length went over the room, what is there is told.
 fn printed(buf: &mut Out, letter: u8, room: &[u8], length: usize) -> usize {
     let n = line::least(length, room.len());
     let a = granted(buf, letter);
-    let b = out::number(buf, a, length);
-    let c = out::hex(buf, b, line::front(room, n));
-    out::kept(buf, c, text::kept_bytes(room, n))
+    let b = tell::number(buf, a, length);
+    let c = tell::hex(buf, b, line::front(room, n));
+    tell::kept(buf, c, text::kept_bytes(room, n))
 }
 
 // `C NO AT LINE COL KEPT`
 fn unprinted(buf: &mut Out, letter: u8, room: &[u8], no: usize, place: Place) -> usize {
     let a = denied(buf, letter, no, place);
-    out::kept(buf, a, text::kept_bytes(room, 0))
+    tell::kept(buf, a, text::kept_bytes(room, 0))
 }
 
 fn print_styled(
@@ -85,7 +86,7 @@ pub(crate) fn print(
     pool: &Pool,
     state: State,
 ) -> Answer {
-    let Number::Is(n) = number::after_letter(line, end) else {
+    let Number::Is(n) = figures::after_letter(line, end) else {
         return state::none(state);
     };
     if n > line.len() {
@@ -144,7 +145,7 @@ fn access_to(
         return out::byte(buf, refused, b'\n');
     }
     let a = granted(buf, b'A');
-    let b = out::hex(
+    let b = tell::hex(
         buf,
         a,
         text_format::value_bytes(image, root, table, pool, node),
@@ -162,7 +163,7 @@ pub(crate) fn access(
     pool: &Pool,
     state: State,
 ) -> Answer {
-    let Number::Is(node) = number::after_letter(line, end) else {
+    let Number::Is(node) = figures::after_letter(line, end) else {
         return state::none(state);
     };
     let at = access_to(

@@ -1,18 +1,20 @@
 // The request X: the state's table and pool are carried from the schema image to the older one, in rooms of the asked sizes.
-use crate::line;
-use crate::number;
-use crate::number::Number;
-use crate::out;
+use crate::figures;
 use crate::rooms::Image;
-use crate::rooms::Out;
 use crate::rooms::Pool;
 use crate::rooms::Table;
 use crate::state;
 use crate::state::Answer;
 use crate::state::State;
+use crate::tell;
 use crate::text;
 use carry::Carried;
 use definitions::Place;
+use streams::line;
+use streams::number;
+use streams::number::Number;
+use streams::out;
+use streams::out::Out;
 
 // `STYLE ROOM WORDS BYTES`. Where a number is missing, or the style is neither 0 nor 1, a size is over every room's length.
 struct Asked {
@@ -26,11 +28,11 @@ struct Asked {
 fn sizes(line: &[u8], end: usize) -> Asked {
     let to = line::least(end, line.len());
     let from = line::least(2, to);
-    let style = number::leading(&line[from..to]);
+    let style = figures::leading(&line[from..to]);
     let a = from + style.next;
-    let room = number::leading(&line[a..to]);
+    let room = figures::leading(&line[a..to]);
     let b = a + room.next;
-    let words = number::leading(&line[b..to]);
+    let words = figures::leading(&line[b..to]);
     let c = b + words.next;
     let mut bytes = usize::MAX;
     if let Number::Is(n) = number::decimal(&line[c..to]) {
@@ -55,8 +57,8 @@ fn made(
 ) -> usize {
     let a = out::bytes(buf, 0, b"X 0 0");
     let told = text::tell(buf, a, nodes, pool, count, used);
-    let b = out::hex(buf, told.at, room);
-    out::kept(buf, b, text::kept(nodes, told.words, pool, told.bytes))
+    let b = tell::hex(buf, told.at, room);
+    tell::kept(buf, b, text::kept(nodes, told.words, pool, told.bytes))
 }
 
 // `X print NO AT LINE COL BUFFERHEX KEPT`, or `X read ..` where the read refused.
@@ -70,9 +72,9 @@ fn refused(
     place: Place,
 ) -> usize {
     let a = out::bytes(buf, 0, by);
-    let b = out::refusal(buf, a, no, place);
-    let c = out::hex(buf, b, room);
-    out::kept(buf, c, text::kept(nodes, 0, pool, 0))
+    let b = tell::refusal(buf, a, no, place);
+    let c = tell::hex(buf, b, room);
+    tell::kept(buf, c, text::kept(nodes, 0, pool, 0))
 }
 
 fn told(buf: &mut Out, carried: Carried, room: &[u8], words: &[u32], bytes: &[u8]) -> usize {

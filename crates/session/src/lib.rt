@@ -1,25 +1,25 @@
 // The line protocol: requests on standard input, one to a line, and their answers on standard output. The rooms are lent.
 mod asking;
 mod carrying;
+mod figures;
 mod hex;
-mod line;
-mod lines;
-mod number;
-mod out;
 mod reading;
 mod request;
 pub mod rooms;
 mod setting;
 mod state;
+mod table;
+mod tell;
 mod text;
 
 use rooms::Image;
 use rooms::Input;
 use rooms::Line;
-use rooms::Out;
 use rooms::Pool;
 use rooms::Table;
 use rooms::Words;
+use streams::lines;
+use streams::out::Out;
 
 // Answers the requests of standard input to its end. `image`, `older`, `table` and `pool` hold the state between requests, `words` and
 // `bytes` are lent to what is read. What goes over its room is no request.

@@ -1,17 +1,18 @@
 // The request T.
+use crate::figures;
 use crate::hex;
 use crate::hex::Spelled;
-use crate::line;
-use crate::number;
 use crate::rooms::Image;
-use crate::rooms::Out;
 use crate::rooms::Pool;
 use crate::rooms::Table;
 use crate::state;
 use crate::state::Answer;
 use crate::state::State;
+use crate::table;
 use crate::text;
 use crate::text::Outcome;
+use streams::line;
+use streams::out::Out;
 
 // What is left of `T WORDS BYTES HEX` after BYTES: the text is read into just these words and bytes.
 fn read_hex(
@@ -51,7 +52,7 @@ fn store(
         return state::done(state, made.at);
     }
     let mut next = state;
-    next.table = line::copy_words(line::front_words(words, made.words), table);
+    next.table = table::copy_words(line::front_words(words, made.words), table);
     next.pool = line::copy(line::front(bytes, made.bytes), pool);
     state::done(next, made.at)
 }
@@ -70,9 +71,9 @@ pub(crate) fn read(
 ) -> Answer {
     let to = line::least(end, line.len());
     let from = line::least(2, to);
-    let first = number::leading(&line[from..to]);
+    let first = figures::leading(&line[from..to]);
     let start = from + first.next;
-    let second = number::leading(&line[start..to]);
+    let second = figures::leading(&line[start..to]);
     let text = start + second.next;
     let count = first.n;
     let room = second.n;

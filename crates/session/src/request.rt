@@ -1,12 +1,9 @@
 // A line of the protocol: what it asks for, and its answer.
 use crate::asking;
 use crate::carrying;
-use crate::lines::Lines;
-use crate::out;
 use crate::reading;
 use crate::rooms::Image;
 use crate::rooms::Line;
-use crate::rooms::Out;
 use crate::rooms::Pool;
 use crate::rooms::Table;
 use crate::rooms::Words;
@@ -14,6 +11,10 @@ use crate::setting;
 use crate::state;
 use crate::state::Answer;
 use crate::state::State;
+use crate::tell;
+use streams::lines::Lines;
+use streams::out;
+use streams::out::Out;
 
 // The letter of a request, `#` where no answer is due, and 0 for a line that no request begins. Q stands alone, any other letter before
 // a space.
@@ -85,7 +86,7 @@ pub(crate) fn tell(buf: &mut Out, answer: Answer, count: usize) -> State {
         out::flush(buf, answer.at);
         return state;
     }
-    let at = out::no_request(buf, 0, count);
+    let at = tell::no_request(buf, 0, count);
     out::flush(buf, at);
     state
 }

@@ -1,11 +1,6 @@
 // The rooms that requests are answered in: 7,927,360 bytes in all, which a program has on its stack, of the usual 8 MiB; so it wants an
 // optimized build, which keeps one copy of each.
 
-// What is to be written and is not yet.
-pub const OUT_LENGTH: usize = 16384;
-
-pub type Out = [u8; OUT_LENGTH];
-
 // The input that is read and in no line yet.
 pub const INPUT_LENGTH: usize = 16384;
 

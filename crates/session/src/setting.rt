@@ -2,15 +2,16 @@
 // a space.
 use crate::hex;
 use crate::hex::Spelled;
-use crate::line;
-use crate::number;
-use crate::number::Number;
 use crate::rooms::Image;
 use crate::rooms::Pool;
 use crate::rooms::Table;
 use crate::state;
 use crate::state::Answer;
 use crate::state::State;
+use crate::table;
+use streams::line;
+use streams::number;
+use streams::number::Number;
 
 // `S HEX`. No image longer than its room can be accepted, nor can such a one cut at the room's end.
 fn schema(line: &mut [u8], image: &mut [u8], state: State) -> Answer {
@@ -51,7 +52,7 @@ fn nodes(line: &mut [u8], table: &mut [u32], state: State) -> Answer {
         return state::none(state);
     }
     let mut next = state;
-    next.table = line::join(line::front(line, n), table);
+    next.table = table::join(line::front(line, n), table);
     state::done(next, 0)
 }
 

@@ -1,9 +1,10 @@
 // The request T: a text is read into rooms of the asked sizes.
-use crate::line;
-use crate::out;
-use crate::rooms::Out;
+use crate::tell;
 use definitions::Place;
 use parse::Read;
+use streams::line;
+use streams::out;
+use streams::out::Out;
 
 // What every word and byte of a room holds before a call.
 const WORD: u32 = 0xa5a5a5a5;
@@ -88,10 +89,10 @@ pub(crate) fn tell(
 ) -> Outcome {
     let words = line::least(count, nodes.len() / 5) * 5;
     let bytes = line::least(used, pool.len());
-    let a = out::number(buf, at, count);
-    let b = out::number(buf, a, used);
-    let c = out::hex_words(buf, b, line::front_words(nodes, words));
-    let d = out::hex(buf, c, line::front(pool, bytes));
+    let a = tell::number(buf, at, count);
+    let b = tell::number(buf, a, used);
+    let c = tell::hex_words(buf, b, line::front_words(nodes, words));
+    let d = tell::hex(buf, c, line::front(pool, bytes));
     Outcome {
         is_request: true,
         is_made: true,
@@ -105,7 +106,7 @@ pub(crate) fn tell(
 fn made(buf: &mut Out, nodes: &[u32], pool: &[u8], count: usize, used: usize) -> Outcome {
     let a = out::bytes(buf, 0, b"T 0 0");
     let told = tell(buf, a, nodes, pool, count, used);
-    let at = out::kept(buf, told.at, kept(nodes, told.words, pool, told.bytes));
+    let at = tell::kept(buf, told.at, kept(nodes, told.words, pool, told.bytes));
     Outcome {
         is_request: true,
         is_made: true,
@@ -118,8 +119,8 @@ fn made(buf: &mut Out, nodes: &[u32], pool: &[u8], count: usize, used: usize) ->
 // `T NO AT LINE COL KEPT`
 fn refused(buf: &mut Out, nodes: &[u32], pool: &[u8], no: usize, place: Place) -> Outcome {
     let a = out::byte(buf, 0, b'T');
-    let b = out::refusal(buf, a, no, place);
-    let at = out::kept(buf, b, kept(nodes, 0, pool, 0));
+    let b = tell::refusal(buf, a, no, place);
+    let at = tell::kept(buf, b, kept(nodes, 0, pool, 0));
     Outcome {
         is_request: true,
         is_made: false,

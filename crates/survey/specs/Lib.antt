@@ -1,0 +1,2 @@
+-- What a survey of a table tells.
+pub mod Survey

@@ -1,0 +1,2 @@
+-- What a person is shown of a refusal.
+pub mod Words
