@@ -1,6 +1,8 @@
 // Counts: a schema image and a text are read from standard input, and a word is written after each phase, so that what stands between
 // two writes is the cost of a phase. The first three bytes are the image's length, the most significant first; the image follows, of
 // which message 0 is the root, and then the text.
+#![tactic(auto)]
+
 mod phases;
 mod rooms;
 

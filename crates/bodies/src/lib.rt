@@ -1,5 +1,7 @@
 // The cycle of readers: a message or an entry is fields until its closer, and a field may hold a message or an entry (after the
 // original's parse.rs, its names kept where the thing is the same).
+#![tactic(auto)]
+
 ghost use Rattle.std.specs.Prelude.{◌≡◌, true, ◌≤◌, ◌<◌, length};
 ghost use Rattle.definitions.specs.Refusals.{most_text};
 ghost use Rattle.definitions.specs.Scope.{want, within, nests};

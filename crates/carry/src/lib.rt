@@ -1,5 +1,7 @@
 // A table carried from a newer schema to an older one: printed under the newer, and that text read under the older. Any bytes may be
 // handed in: the call ends, and answers or refuses by a number of document 01.
+#![tactic(auto)]
+
 ghost use Rattle.std.specs.Prelude.{◌≡◌, length};
 ghost use Rattle.definitions.specs.Print.{print_answer, print_buffer};
 ghost use Rattle.fields.specs.Fields.{style_of};
@@ -12,7 +14,7 @@ use parse::Read;
 use text_format::Printed;
 
 // What carrying gives: the nodes and pool bytes made, or a refusal's number and place, and which of the two calls refused.
-#[derive(Drop)]
+#[derive(Clone, Copy)]
 pub enum Carried {
     Made(usize, usize),
     NotPrinted(u8, Place),

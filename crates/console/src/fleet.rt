@@ -20,7 +20,7 @@ use text_format::Printed;
 // How the loggers so far took the file: how many did, the worst verdict, which was the first that did and how much of a room its print
 // takes, how many show something else than that one, and whether a print was too long to be looked at. `at` is how much of the buffer
 // is to be written yet.
-#[derive(Drop)]
+#[derive(Clone, Copy)]
 struct Tally {
     at: usize,
     taken: usize,

@@ -1,4 +1,6 @@
 // The command `ventro`: a call's words in, what it tells a person out, and its verdict. The rooms are lent.
+#![tactic(auto)]
+
 mod carrying;
 mod fleet;
 mod prints;

@@ -1,5 +1,7 @@
 // The types that the definitions share with the code above them, and the format's numbers by name. There is no function here: the rules
 // stand in specs/.
+#![tactic(auto)]
+
 pub mod kinds;
 pub mod labels;
 pub mod limits;
@@ -7,14 +9,14 @@ pub mod refusals;
 pub mod tokens;
 
 // A run of records: the fields of a message, or the values of an enum (H, "Schema image").
-#[derive(Drop)]
+#[derive(Clone, Copy)]
 pub struct Span {
     pub first: usize,
     pub count: usize,
 }
 
 // A field's record (H, "Schema image"): where its name lies in the name bytes, its number, label, key type, type and reference.
-#[derive(Drop)]
+#[derive(Clone, Copy)]
 pub struct Field {
     pub start: usize,
     pub length: usize,
@@ -26,7 +28,7 @@ pub struct Field {
 }
 
 // An enum value's record (H, "Schema image"): its name, and its number in two's complement.
-#[derive(Drop)]
+#[derive(Clone, Copy)]
 pub struct Member {
     pub start: usize,
     pub length: usize,
@@ -35,7 +37,7 @@ pub struct Member {
 
 // What a name of a text, or the field of a node, stands for: a kind of node (10 for a map's entry), the enum or message that it
 // refers to (the map field itself for an entry), and the field word of its nodes.
-#[derive(Drop)]
+#[derive(Clone, Copy)]
 pub struct Want {
     pub kind: u8,
     pub reference: usize,
@@ -43,7 +45,7 @@ pub struct Want {
 }
 
 // A node's five words (H, "Node table").
-#[derive(Drop)]
+#[derive(Clone, Copy)]
 pub struct Node {
     pub kind: u32,
     pub field: u32,
@@ -54,7 +56,7 @@ pub struct Node {
 
 // Where a refusal points (02 §1): an offset in the text with its line and column, both counted from 1, the column in bytes; or no
 // place in the text: the number that goes with the refusal, with line 0 and column 0. A text has at most 1,048,576 bytes.
-#[derive(Drop)]
+#[derive(Clone, Copy)]
 pub struct Place {
     pub offset: usize,
     pub line: u32,
@@ -69,14 +71,14 @@ pub const NO_PLACE: Place = Place {
 };
 
 // A token: what it is, and the place of its first byte. The kinds are those of specs/Tokens.antt.
-#[derive(Drop)]
+#[derive(Clone, Copy)]
 pub struct Token {
     pub kind: u8,
     pub start: Place,
 }
 
 // Where reading stands: in the text, in the node table and in the pool.
-#[derive(Drop)]
+#[derive(Clone, Copy)]
 pub struct Spot {
     pub at: usize,
     pub node: usize,
@@ -84,7 +86,7 @@ pub struct Spot {
 }
 
 // How far the bytes so far are UTF-8: so many bytes are still to come, and the next one lies from low to high.
-#[derive(Drop)]
+#[derive(Clone, Copy)]
 pub struct Utf8 {
     pub left: u8,
     pub low: u8,

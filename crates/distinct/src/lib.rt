@@ -1,4 +1,6 @@
 // Names and numbers are distinct within a message and within an enum.
+#![tactic(auto)]
+
 ghost use Rattle.std.specs.Prelude.{◌≡◌, not, ◌+◌, ◌^◌, max, ◌≤◌, ◌<◌};
 ghost use Rattle.std.specs.Int.Bits.{bit_or};
 ghost use Rattle.definitions.specs.Basics as basic;

@@ -1,4 +1,6 @@
 // What a message and an entry of a map differ in: which fields they have, `key` and `value` each at most once, and defaults.
+#![tactic(auto)]
+
 ghost use Rattle.std.specs.Prelude.{◌≡◌, true, ◌&&◌, ◌||◌, eqb, ◌≤◌, ◌+◌};
 ghost use Rattle.definitions.specs.Refusals.{most_text};
 ghost use Rattle.definitions.specs.Scope.{want, within, find_in, nests, string, byte_string, body};

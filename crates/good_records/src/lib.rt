@@ -1,4 +1,6 @@
 // The acceptance rule for one record after another: names, key types, types and references, zero bits.
+#![tactic(auto)]
+
 ghost use Rattle.std.specs.Prelude.{◌≡◌, ◌+◌, ◌≤◌, ◌<◌, length};
 ghost use Rattle.definitions.specs.Basics as basic;
 ghost use Rattle.definitions.specs.Image as spec;

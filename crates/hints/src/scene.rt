@@ -29,7 +29,7 @@ pub const NO_KIND: u8 = 0;
 const MOST_LEVELS: usize = 34;
 
 // What comes next, inside which message or entry (`holder`), how deep, and what the last name there stands for.
-#[derive(Drop)]
+#[derive(Clone, Copy)]
 pub struct Scene {
     pub phase: u8,
     pub level: usize,
@@ -149,7 +149,7 @@ fn after_name(image: &[u8], layout: Layout, scene: Scene, name: &[u8]) -> Scene
 }
 
 // The messages and entries that are open, the root first: of each the kind and what it refers to.
-#[derive(Drop)]
+#[derive(Clone, Copy)]
 struct Open {
     kinds: [u8; 34],
     references: [usize; 34],

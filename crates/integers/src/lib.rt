@@ -1,4 +1,6 @@
 // Integers (T, H): decimal, octal (`0` then octal digits), hex (`0x` or `0X` then digits).
+#![tactic(auto)]
+
 pub mod answers;
 
 ghost use Rattle.std.specs.Prelude.{◌≡◌, false, ◌+◌, ◌*◌, ◌-◌, ◌/◌, ◌<◌, ◌≤◌, ltb, drop};

@@ -1,1 +1,2 @@
 // Laws of the definitions, which every crate above may cite: see proofs/.
+#![tactic(auto)]

@@ -1,4 +1,6 @@
 // What the readers of values share: their answer, and a leaf's words in the table.
+#![tactic(auto)]
+
 mod ranges;
 mod store;
 
@@ -11,7 +13,7 @@ pub use ranges::{is_broken, most_signed, most_unsigned, widened};
 pub use store::{put, put_body, put_number};
 
 // What reading gives: the spot after and the line that it stands on, or the first fault with its place.
-#[derive(Drop)]
+#[derive(Clone, Copy)]
 pub enum Answer {
     Done(Spot, Line),
     No(u8, Place),

@@ -1,4 +1,6 @@
 // Tokens of a text (T, H, "Tokens and grammar"): byte classes and the scanner.
+#![tactic(auto)]
+
 pub mod classes;
 pub mod tokens;
 

@@ -13,28 +13,28 @@ use definitions::{Place, Spot, Token, tokens};
 use integers::hex_digit;
 
 // The line that a place stands on: its number, counted from 1, and the offset of its first byte.
-#[derive(Drop)]
+#[derive(Clone, Copy)]
 pub struct Line {
     pub number: u32,
     pub began: u32,
 }
 
 // Where reading stands in the text, and on which line.
-#[derive(Drop)]
+#[derive(Clone, Copy)]
 pub struct Cursor {
     pub at: usize,
     pub line: Line,
 }
 
 // A token and the place after it, or a bad token's first byte.
-#[derive(Drop)]
+#[derive(Clone, Copy)]
 pub enum Step {
     Token(Token, Cursor),
     Bad(Place),
 }
 
 // How a string ends: its closing quote stands before a place, or is missing.
-#[derive(Drop)]
+#[derive(Clone, Copy)]
 enum Closing {
     Before(usize),
     Missing,

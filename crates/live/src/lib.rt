@@ -1,5 +1,7 @@
 // Live (document 01): of several values of one singular field the last is live, of entries of one map with equal keys the last;
 // all repeated and unknown values are live.
+#![tactic(auto)]
+
 ghost use Rattle.std.specs.Prelude.{◌≡◌, true, ◌+◌, ◌<◌};
 ghost use Rattle.definitions.specs.Scope.{within};
 ghost use Rattle.definitions.specs.Nodes as table;

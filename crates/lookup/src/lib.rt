@@ -1,4 +1,6 @@
 // Lookup in an accepted image: a field by its name in a message, a value by its name or its number in an enum.
+#![tactic(auto)]
+
 ghost use Rattle.std.specs.Prelude.{◌≡◌, ◌&&◌, leb, ltb, ◌+◌, ◌≤◌, ◌<◌};
 ghost use Rattle.definitions.specs.Basics as basic;
 ghost use Rattle.definitions.specs.Image as spec;

@@ -6,7 +6,7 @@ ghost use Rattle.message.specs.Value.{Lendable, value_run, lent_run};
 use nodes::{is_run, node};
 
 // Where a value lies in the pool.
-#[derive(Drop)]
+#[derive(Clone, Copy)]
 pub enum Run {
     At(usize, usize),
     Nothing,

@@ -1,4 +1,6 @@
 // A node table's words, and the scopes that its nodes stand in: a message, or an entry of a map field.
+#![tactic(auto)]
+
 ghost use Rattle.std.specs.Prelude.{◌≡◌, ◌+◌, ◌*◌, ◌≤◌, length};
 ghost use Rattle.definitions.specs.Scope as scope;
 ghost use Rattle.definitions.specs.Nodes as table;

@@ -1,4 +1,6 @@
 // i32, i64, u32 and u64.
+#![tactic(auto)]
+
 ghost use Rattle.std.specs.Prelude.{true};
 ghost use Rattle.definitions.specs.Tokens.{token};
 ghost use Rattle.definitions.specs.Reading.{integer_tok, unsigned, signed_value};

@@ -1,5 +1,7 @@
 // Reading a whole text: one set of functions for both passes. Over empty parts of the table and the pool they only count and find the
 // first fault; then they store.
+#![tactic(auto)]
+
 ghost use Rattle.std.specs.Prelude.{◌≡◌, ◌≤◌, ◌<◌, length};
 ghost use Rattle.definitions.specs.Refusals.{most_text, unplaced};
 ghost use Rattle.definitions.specs.Reading.{node_room};
@@ -14,7 +16,7 @@ use leaves::{Answer, put_body};
 use records::Layout;
 
 // What reading a whole text gives: how many nodes and pool bytes were made, or a refusal's number and place.
-#[derive(Drop)]
+#[derive(Clone, Copy)]
 pub enum Read {
     Made(usize, usize),
     No(u8, Place),

@@ -1,5 +1,7 @@
 // The records of a schema image (document 01, "Schema image"): the header's counts and the layout that they give, messages, fields, enums
 // and enum values, and their names.
+#![tactic(auto)]
+
 mod names;
 mod records;
 
@@ -19,7 +21,7 @@ pub const FIELD: usize = 9;
 pub const VALUE: usize = 7;
 
 // Where the records after the messages, and the name bytes, begin in an image.
-#[derive(Drop)]
+#[derive(Clone, Copy)]
 pub struct Layout {
     pub fields: usize,
     pub enums: usize,
@@ -28,7 +30,7 @@ pub struct Layout {
 }
 
 // The index that a lookup finds.
-#[derive(Drop)]
+#[derive(Clone, Copy)]
 pub enum Found {
     At(usize),
     Nothing,

@@ -1,4 +1,6 @@
 // Answers requests of the line protocol on standard input, one line each, on standard output.
+#![tactic(auto)]
+
 mod rooms;
 
 fn main() {

@@ -35,7 +35,7 @@ const OPTIONS: usize = 4;
 // What was asked, as far as the words before `next` tell: the command; how many of the words are files, and where the last of those
 // lies; the root's name, if one is named; how many values and bytes the logger has room for; whether required fields are asked for;
 // whether a word can't be understood. `option` is one that waits for its word.
-#[derive(Drop)]
+#[derive(Clone, Copy)]
 pub struct Asked {
     pub command: usize,
     pub is_script: bool,

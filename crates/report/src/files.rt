@@ -7,14 +7,14 @@ use streams::line;
 use streams::out::Out;
 
 // How many bytes were read, or why none can be.
-#[derive(Drop)]
+#[derive(Clone, Copy)]
 enum Got {
     Bytes(usize),
     Failed(i32),
 }
 
 // What is there, or how much of the buffer says that nothing can be read.
-#[derive(Drop)]
+#[derive(Clone, Copy)]
 pub enum Loaded {
     Bytes(usize),
     Not(usize),

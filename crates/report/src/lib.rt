@@ -1,4 +1,6 @@
 // What a person is told: a call's words and files in, refusals in words that a grower understands, help, and the verdict.
+#![tactic(auto)]
+
 pub mod call;
 pub mod files;
 pub mod help;

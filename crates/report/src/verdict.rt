@@ -5,7 +5,7 @@ pub const REFUSED: u8 = 1;
 
 pub const WRONG: u8 = 2;
 
-#[derive(Drop)]
+#[derive(Clone, Copy)]
 pub struct Told {
     pub at: usize,
     pub verdict: u8,

@@ -1,6 +1,8 @@
 // Reading a value of a type that is no message (after the original's parse.rs, its names kept where the thing is the same).
 // Words and bytes are stored where there is room for them, so over empty parts of the table and the pool the same functions only
 // count and find the first fault.
+#![tactic(auto)]
+
 mod names;
 mod runs;
 

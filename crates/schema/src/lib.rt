@@ -1,4 +1,6 @@
 // The acceptance rule as a whole: the header, the runs of records, and the check.
+#![tactic(auto)]
+
 ghost use Rattle.std.specs.Prelude.{◌≡◌, ◌+◌, ◌*◌, ◌≤◌, ◌<◌, leb, length, drop};
 ghost use Rattle.definitions.specs.Basics as basic;
 ghost use Rattle.definitions.specs.Image as spec;

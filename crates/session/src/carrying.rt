@@ -9,7 +9,7 @@ use streams::out::Out;
 use streams::{line, number, out};
 
 // `STYLE ROOM WORDS BYTES`. Where a number is missing, or the style is neither 0 nor 1, a size is over every room's length.
-#[derive(Drop)]
+#[derive(Clone, Copy)]
 struct Asked {
     is_pretty: bool,
     room: usize,

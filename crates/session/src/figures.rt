@@ -5,7 +5,7 @@ use streams::line;
 use streams::number::{Number, decimal};
 
 // A number that a space ends, and where the next word begins. Where there is none, n is over every room's length.
-#[derive(Drop)]
+#[derive(Clone, Copy)]
 pub(crate) struct Ended {
     pub(crate) n: usize,
     pub(crate) next: usize,

@@ -2,7 +2,7 @@
 ghost use Rattle.std.specs.Prelude.{◌≤◌, ◌<◌};
 
 // How many bytes a word spells, where it spells bytes.
-#[derive(Drop)]
+#[derive(Clone, Copy)]
 pub(crate) enum Spelled {
     Bytes(usize),
     Bad,

@@ -1,4 +1,6 @@
 // The line protocol: requests on standard input, one to a line, and their answers on standard output. The rooms are lent.
+#![tactic(auto)]
+
 mod asking;
 mod carrying;
 mod figures;

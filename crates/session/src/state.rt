@@ -1,7 +1,7 @@
 // The state between requests, and what a request leaves.
 
 // The root, and how much of their rooms the schema image, the older one, the node table and the pool take.
-#[derive(Drop)]
+#[derive(Clone, Copy)]
 pub(crate) struct State {
     pub(crate) image: usize,
     pub(crate) older: usize,
@@ -11,7 +11,7 @@ pub(crate) struct State {
 }
 
 // What a request leaves: the state, whether the line was a request, and how much of the buffer is to be written.
-#[derive(Drop)]
+#[derive(Clone, Copy)]
 pub(crate) struct Answer {
     pub(crate) state: State,
     pub(crate) is_request: bool,

@@ -58,7 +58,7 @@ pub(crate) fn kept(nodes: &[u32], words: usize, pool: &[u8], bytes: usize) -> bo
 
 // What a read or a carrying came to: whether the line was a request, how much of the buffer is to be written, and where a table was
 // made, its words and its pool's bytes.
-#[derive(Drop)]
+#[derive(Clone, Copy)]
 pub(crate) struct Outcome {
     pub(crate) is_request: bool,
     pub(crate) is_made: bool,

@@ -1,4 +1,6 @@
 // Bytes stored in a lent room, as far as it has places: reading stores a string's bytes so, and printing its text.
+#![tactic(auto)]
+
 ghost use Rattle.std.specs.Prelude.{◌≡◌, ◌+◌, ◌≤◌, ◌<◌, ◌^◌, length, set};
 ghost use Rattle.std.proofs.lemmas.List.Edits.{sets};
 

@@ -4,7 +4,7 @@ use libc::STDIN_FILENO;
 
 // Where the input stands. Of its room the bytes from start to end are read and in no line yet, and the line's room holds length bytes of
 // the line of number count. `is_whole` where that line has ended, `is_long` where it went over its room, and bytes of it were dropped.
-#[derive(Drop)]
+#[derive(Clone, Copy)]
 pub struct Lines {
     pub start: usize,
     pub end: usize,

@@ -1,5 +1,5 @@
 // Numbers in decimal.
-#[derive(Drop)]
+#[derive(Clone, Copy)]
 pub enum Number {
     Is(usize),
     Bad,

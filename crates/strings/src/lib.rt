@@ -1,4 +1,6 @@
 // Escapes (T, H): what the bytes between the quotes of a string stand for.
+#![tactic(auto)]
+
 ghost use Rattle.std.specs.Prelude.{◌≡◌, ◌+◌, ◌<◌, ◌^◌, length, drop, get_or};
 ghost use Rattle.std.proofs.lemmas.List.Edits.{sets};
 ghost use Rattle.definitions.specs.Integers.{front, octal_digit, worth};
@@ -23,14 +25,14 @@ pub fn escapes() -> [u8; 22]
 }
 
 // A piece of a string: the byte that it stands for and how many bytes it takes, or no piece.
-#[derive(Drop)]
+#[derive(Clone, Copy)]
 pub enum Piece {
     Byte(u8, usize),
     Bad,
 }
 
 // What a whole string stands for: so many bytes, UTF-8 or not; or a piece of it is bad.
-#[derive(Drop)]
+#[derive(Clone, Copy)]
 pub enum Decoded {
     Bytes(usize, bool),
     Bad,

@@ -1,5 +1,7 @@
 // What a person is told of a node table: how many live values it has, and the first required field that lacks. Any bytes may be
 // handed in: where schema, root or table are refused (1, 2, 15), there are no values and nothing lacks.
+#![tactic(auto)]
+
 pub mod required;
 mod scalars;
 

@@ -15,7 +15,7 @@ use nodes::{nests, node, want};
 use records::Layout;
 
 // The first required field that lacks, by its index in the whole field table.
-#[derive(Drop)]
+#[derive(Clone, Copy)]
 pub enum Missing {
     Nothing,
     Field(usize),

@@ -1,5 +1,7 @@
 // The library's entry points. Any bytes may be handed in as schema, text, nodes or pool: every call ends, and answers or refuses by
 // a number of document 01. A refused call changes no byte or word that it was lent.
+#![tactic(auto)]
+
 ghost use Rattle.std.specs.Prelude.{◌≡◌, length};
 ghost use Rattle.definitions.specs.Reading.{read_answer, read_nodes, read_pool};
 ghost use Rattle.definitions.specs.Print.{compact, pretty, print_answer, print_buffer};
@@ -40,21 +42,21 @@ pub fn read(image: &[u8], root: usize, text: &[u8], nodes: &mut [u32], pool: &mu
 }
 
 // What a print gives: the length of the text, or a refusal's number and place.
-#[derive(Drop)]
+#[derive(Clone, Copy)]
 pub enum Printed {
     Length(usize),
     No(u8, Place),
 }
 
 // What the required check gives: no required field is missing, or a refusal's number and place.
-#[derive(Drop)]
+#[derive(Clone, Copy)]
 pub enum Checked {
     Complete,
     No(u8, Place),
 }
 
 // What access to a value gives: there is one, or a refusal's number and place.
-#[derive(Drop)]
+#[derive(Clone, Copy)]
 pub enum Valued {
     Given,
     No(u8, Place),

@@ -1,4 +1,6 @@
 // UTF-8, byte by byte (T; table 3-7 of the Unicode Standard: no surrogates, no overlong forms, at most U+10FFFF).
+#![tactic(auto)]
+
 ghost use Rattle.std.specs.Prelude.{◌≡◌};
 ghost use Rattle.definitions.specs.Integers.{front};
 ghost use Rattle.definitions.specs.Utf8.{await, lead, step, utf8};

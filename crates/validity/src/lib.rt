@@ -1,4 +1,6 @@
 // When a table is valid (document 01, "Node table"): one walk, in which no word is trusted before it is checked.
+#![tactic(auto)]
+
 ghost use Rattle.std.specs.Prelude.{◌≡◌, true, ◌+◌, ◌*◌, ◌≤◌, ◌<◌, length};
 ghost use Rattle.definitions.specs.Image.{message_count};
 ghost use Rattle.definitions.specs.Scope.{within};

@@ -1,4 +1,6 @@
 // The command that a person uses: `ventro help` tells what it does.
+#![tactic(auto)]
+
 mod calls;
 mod rooms;
 

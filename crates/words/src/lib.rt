@@ -1,5 +1,7 @@
 // What a person is shown of a refusal: the word at its place, and the line that the word stands on, each lent as a part of the text.
 // Any bytes may be handed in as text, and any offset.
+#![tactic(auto)]
+
 ghost use Rattle.std.specs.Prelude.{◌≡◌, ◌+◌, ◌≤◌, ◌<◌, length, drop};
 ghost use Rattle.definitions.specs.Classes.{classes};
 ghost use Rattle.definitions.specs.Refusals.{most_text};
@@ -13,7 +15,7 @@ use lexer::classes::{DIGIT, QUOTE};
 use lexer::{Cursor, Line, Step};
 
 // A part of a text: the offset of its first byte, and the one after its last.
-#[derive(Drop)]
+#[derive(Clone, Copy)]
 struct Part {
     from: usize,
     to: usize,

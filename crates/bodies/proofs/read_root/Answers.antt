@@ -1,0 +1,8 @@
+-- `bodies::read_root` meets its contract: the root is a message of the schema, read from the start of the text.
+use mathlib.Core.Path.{refl}
+use Rattle.bodies.proofs.Origin.{origin-fair, root-fits}
+use borrow.Author.Rules.{rules}
+use Rattle.bodies.proofs.read_root.Goals as goal
+
+pub read_message-requires : goal.read_message-requires
+read_message-requires c = (c.requires.0, c.requires.1, origin-fair _ c.requires.3, root-fits _ _ c.requires.2, refl)

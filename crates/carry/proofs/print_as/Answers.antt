@@ -1,0 +1,11 @@
+-- `carry::print_as` meets its contract.
+use mathlib.Core.Bool.{true, false}
+use Rattle.carry.proofs.Printing.{styled}
+use borrow.Author.Rules.{rules}
+use Rattle.carry.proofs.print_as.Goals as goal
+
+pub returns-then-pretty : goal.returns-then-pretty
+returns-then-pretty c = styled true _ c.if-pretty.true _ _ _ _ _ _ _ c.print_pretty.ensures
+
+pub returns : goal.returns
+returns c = styled false _ c.if-pretty.false _ _ _ _ _ _ _ c.print.ensures

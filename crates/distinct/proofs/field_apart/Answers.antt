@@ -1,0 +1,78 @@
+-- `distinct::field_apart` meets its contract. The invariant: none of those passed agrees.
+use mathlib.Core.Path.{◌≡◌, sym, ◌∙◌, ap}
+use Prim.Native.Nat.{ℕ, ◌+◌, ◌-◌, ◌≤◌, ◌<◌}
+use mathlib.Core.Bool.{Bool, true, false, not}
+use mathlib.Core.List.{List}
+use native.Mathlib.Omega.{arith}
+use lib.Dec.{eqb}
+use borrow.Author.Tests.{eq-eqb, ne_eqb}
+use Rattle.definitions.specs.declared.Field.{Field}
+use Rattle.definitions.specs.Basics.{all, same}
+use Rattle.definitions.specs.Image.{field_count, field, field_name, fields_agree}
+use Rattle.records.proofs.Room.{field_count-lt}
+use Rattle.records.proofs.Accepted.{fields-name}
+use Rattle.laws.proofs.Lists.{all-fails}
+use Rattle.laws.proofs.Tests.{all_start, all_more, all_done, agree-first, agree-second, agree-neither}
+use Rattle.distinct.proofs.field_apart.Goals as goal
+
+abbrev apart : List ℕ → ℕ → ℕ → ℕ → Bool
+apart s first index i = not (fields_agree s (first + i) (first + index))
+
+module _ (s : List ℕ) (i j : ℕ) where
+  numbers : (a b : Field) → a ≡ field s i → b ≡ field s j → a.number ≡ b.number → not (fields_agree s i j) ≡ false
+  unfolding fields_agree
+  numbers a b p q e =
+      agree-second (same (field_name s i) (field_name s j)) (eqb (field s i).number (field s j).number) (eq-eqb _ _ (ap (λ (r : Field). r.number) (sym p) ∙ e ∙ ap (λ (r : Field). r.number) q))
+
+  names : (a b : List ℕ) → a ≡ field_name s i → b ≡ field_name s j → same a b ≡ true → not (fields_agree s i j) ≡ false
+  unfolding fields_agree
+  names a b p q e =
+      agree-first (same (field_name s i) (field_name s j)) (eqb (field s i).number (field s j).number) (rw (← p, ← q) e)
+
+  neither : (a b : Field) → a ≡ field s i → b ≡ field s j → (a.number ≡ b.number → ⊥) → (v w : List ℕ) → v ≡ field_name s i → w ≡ field_name s j → same v w ≡ false → not (fields_agree s i j) ≡ true
+  unfolding fields_agree
+  neither a b p q d v w f g e =
+      agree-neither (same (field_name s i) (field_name s j)) (eqb (field s i).number (field s j).number)
+      (rw (← f, ← g) e)
+      (ne_eqb _ _ (λ z. d (ap (λ (r : Field). r.number) p ∙ z ∙ ap (λ (r : Field). r.number) (sym q))))
+
+pub overflow_add-first : goal.overflow_add-first
+overflow_add-first c = omega (arith, c.requires.1, field_count-lt c.args.image.now)
+
+pub field-own-requires : goal.field-own-requires
+field-own-requires c = (c.requires.0.placed, c.requires.1)
+
+pub overflow_add-first-2 : goal.overflow_add-first-2
+overflow_add-first-2 c = omega (arith, c.requires.1, field_count-lt c.args.image.now)
+
+pub field_name-text-requires : goal.field_name-text-requires
+field_name-text-requires c = (c.requires.0.placed, c.requires.1, fields-name c.requires.0 (c.args.first + c.args.index) c.requires.1)
+
+pub loop-i-init : goal.loop-i-init
+loop-i-init c = (omega arith, all_start (apart c.args.image.now c.args.first c.args.index))
+
+pub overflow_add-first-in-loop-i : goal.overflow_add-first-in-loop-i
+overflow_add-first-in-loop-i c = omega (arith, c.requires.1, field_count-lt c.args.image.now)
+
+pub field-other-requires : goal.field-other-requires
+field-other-requires c = (c.requires.0.placed, omega (arith, c.requires.1, c.loop-i-test.true))
+
+pub returns-then-other-own : goal.returns-then-other-own
+returns-then-other-own c = sym (all-fails c.args.index (apart c.args.image.now c.args.first c.args.index) c.loop-i.i c.loop-i-test.true (numbers c.args.image.now (c.args.first + c.loop-i.i) (c.args.first + c.args.index) c.field-other.result c.field-own.result c.field-other.ensures c.field-own.ensures c.if-other-own.true))
+
+pub overflow_add-first-in-loop-i-2 : goal.overflow_add-first-in-loop-i-2
+overflow_add-first-in-loop-i-2 c = omega (arith, c.requires.1, field_count-lt c.args.image.now)
+
+pub field_name-requires : goal.field_name-requires
+field_name-requires c =
+    let b : c.args.first + c.loop-i.i < field_count c.args.image.now = omega (arith, c.requires.1, c.loop-i-test.true) in
+    (c.requires.0.placed, b, fields-name c.requires.0 (c.args.first + c.loop-i.i) b)
+
+pub returns-then-same : goal.returns-then-same
+returns-then-same c = sym (all-fails c.args.index (apart c.args.image.now c.args.first c.args.index) c.loop-i.i c.loop-i-test.true (names c.args.image.now (c.args.first + c.loop-i.i) (c.args.first + c.args.index) c.field_name.result.now c.field_name-text.result.now c.field_name.ensures c.field_name-text.ensures (sym c.same.ensures ∙ c.if-same.true)))
+
+pub loop-i-preserved : goal.loop-i-preserved
+loop-i-preserved c = (omega arith, all_more c.loop-i.i (apart c.args.image.now c.args.first c.args.index) c.loop-i.invariant.1 (neither c.args.image.now (c.args.first + c.loop-i.i) (c.args.first + c.args.index) c.field-other.result c.field-own.result c.field-other.ensures c.field-own.ensures c.if-other-own.false c.field_name.result.now c.field_name-text.result.now c.field_name.ensures c.field_name-text.ensures (sym c.same.ensures ∙ c.if-same.false)))
+
+pub returns : goal.returns
+returns c = all_done (apart c.args.image.now c.args.first c.args.index) (omega (arith, c.loop-i.invariant.0, c.loop-i-test.false)) c.loop-i.invariant.1

@@ -1,0 +1,24 @@
+-- `fields::labels::do_indent` meets its contract. The invariant: the levels passed are written.
+use borrow.Author.Rules.{rules}
+use mathlib.Core.Path.{refl, sym}
+use Prim.Native.Nat.{◌≤◌, ◌-◌}
+use Rattle.definitions.specs.Print.{indent}
+use Rattle.spelling.specs.Written.{Written}
+use Rattle.spelling.proofs.Texts.{as_written, none_written, written-length}
+use Rattle.fields.proofs.FieldLaws.{indent-none, indent-written, indent-room, indent-all}
+use Rattle.fields.proofs.labels.do_indent.Goals as goal
+
+pub loop-level-init : goal.loop-level-init
+loop-level-init c = (search rules, as_written (sym indent-none) (none_written _ _))
+
+pub put_slice-after-requires : goal.put_slice-after-requires
+put_slice-after-requires c = indent-room _ _ c.loop-level-test.true c.requires c.loop-level.invariant.1
+
+pub loop-level-preserved : goal.loop-level-preserved
+loop-level-preserved c = (search rules, indent-written _ c.loop-level.invariant.1 c.put_slice-after.ensures)
+
+pub shape_of-buffer : goal.shape_of-buffer
+shape_of-buffer c = written-length c.loop-level.invariant.1
+
+pub returns : goal.returns
+returns c = indent-all _ _ c.loop-level.invariant.0 c.loop-level-test.false c.loop-level.invariant.1

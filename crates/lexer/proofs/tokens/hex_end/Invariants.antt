@@ -1,0 +1,15 @@
+-- `lexer::tokens::hex_end` meets its contract. The invariant: the digits end from `i` on where they end from the start.
+use mathlib.Core.Path.{◌≡◌, refl, ◌∙◌, sym}
+use Prim.Native.Nat.{◌+◌, ◌-◌}
+use native.Mathlib.Omega.{arith}
+use lib.ListN.{length, drop}
+use borrow.Author.Tests.{not-true, not-false}
+use Rattle.definitions.specs.Integers.{front, hex_digit}
+use Rattle.laws.proofs.Tests.{front-on, front-stop, front-end}
+use Rattle.lexer.proofs.tokens.hex_end.Given as goal
+
+abbrev pub invariant-loop-i : goal.invariant-loop-i
+invariant-loop-i l = l.i + front hex_digit (drop l.i l.text) ≡ l.at + front hex_digit (drop l.at l.text)
+
+abbrev pub decreases-loop-i : goal.decreases-loop-i
+decreases-loop-i l = length l.text - l.i

@@ -1,0 +1,17 @@
+-- `lexer::tokens::name_end` meets its contract. The invariant: the name ends from `i` on where it ends from the start.
+use mathlib.Core.Path.{◌≡◌, refl, ◌∙◌, ap, sym}
+use Prim.Native.Nat.{◌+◌, ◌-◌}
+use native.Mathlib.Omega.{arith}
+use lib.Dec.{leb}
+use lib.ListN.{length, drop}
+use borrow.Author.Tests.{le-leb, lt-leb}
+use Rattle.definitions.specs.Classes.{goes_on}
+use Rattle.definitions.specs.Integers.{front}
+use Rattle.laws.proofs.Tests.{front-on, front-stop, front-end}
+use Rattle.lexer.proofs.tokens.name_end.Given as goal
+
+abbrev pub invariant-loop-i : goal.invariant-loop-i
+invariant-loop-i l = l.i + front goes_on (drop l.i l.text) ≡ l.at + front goes_on (drop l.at l.text)
+
+abbrev pub decreases-loop-i : goal.decreases-loop-i
+decreases-loop-i l = length l.text - l.i

@@ -1,0 +1,46 @@
+-- `live::is_live` meets its contract. The invariant: from the sibling that the walk has come to on, the node is replaced if and only if it is
+-- replaced at all.
+use native.Mathlib.Omega.{arith}
+use Prim.Native.Nat.{◌-◌}
+use mathlib.Core.Logic.{⊎_elim}
+use mathlib.Core.Path.{sym, ◌∙◌}
+use borrow.Author.Rules.{rules}
+use Rattle.live.proofs.Lives.{Later, live-fits, live_all, later-start, later-end, later-on, later_last, later-entries, later-key, later-unlike, later-other}
+use Rattle.live.proofs.is_live.Goals as goal
+
+pub node-n-requires : goal.node-n-requires
+node-n-requires c = omega (arith, c.requires.2.room, c.requires.3)
+
+pub sharing-how-requires : goal.sharing-how-requires
+sharing-how-requires c = (c.requires.0, c.requires.1, live-fits _ _ _ _ _ _ c.requires.2 c.requires.3 _ c.node-n.ensures)
+
+pub returns-then-how-eq2 : goal.returns-then-how-eq2
+returns-then-how-eq2 c = live_all _ _ _ _ _ _ c.requires.2 c.requires.3 _ c.node-n.ensures _ c.sharing-how.ensures c.if-how-eq2.true
+
+pub loop-j-init : goal.loop-j-init
+loop-j-init c = later-start _ _ _ _ _ _ c.requires.2 c.requires.3 _ c.node-n.ensures _ c.sharing-how.ensures _ c.rank-mine.ensures
+
+pub node-m-requires : goal.node-m-requires
+node-m-requires c = omega (arith, c.requires.2.room, c.loop-j-test.true)
+
+pub returns-then-how-eq0 : goal.returns-then-how-eq0
+returns-then-how-eq0 c = later_last _ _ _ _ _ _ c.requires.2 c.requires.3 _ c.node-n.ensures _ c.sharing-how.ensures _ c.rank-mine.ensures _ c.loop-j.invariant c.loop-j-test.true _ c.node-m.ensures (sym c.rank.ensures ∙ c.if-rank-mine.true) c.if-how-eq0.true
+
+pub same_key-requires : goal.same_key-requires
+same_key-requires c = later-entries _ _ _ _ _ _ c.requires.2 c.requires.3 _ c.node-n.ensures _ c.sharing-how.ensures _ c.rank-mine.ensures _ c.loop-j.invariant c.loop-j-test.true _ c.node-m.ensures (sym c.rank.ensures ∙ c.if-rank-mine.true) c.if-how-eq0.false c.if-how-eq2.false
+
+pub returns-then-same_key : goal.returns-then-same_key
+returns-then-same_key c = later-key _ _ _ _ _ _ c.requires.2 c.requires.3 _ c.node-n.ensures _ c.sharing-how.ensures _ c.rank-mine.ensures _ c.loop-j.invariant c.loop-j-test.true _ c.node-m.ensures (sym c.rank.ensures ∙ c.if-rank-mine.true) c.if-how-eq0.false c.if-how-eq2.false (sym c.same_key.ensures ∙ c.if-same_key.true)
+
+pub loop-j-smaller : goal.loop-j-smaller
+loop-j-smaller c = omega (arith, later-on _ _ _ _ _ _ c.requires.2 c.requires.3 _ c.node-n.ensures _ c.sharing-how.ensures _ c.rank-mine.ensures _ c.loop-j.invariant c.loop-j-test.true _ c.node-m.ensures, c.loop-j-test.true)
+
+pub loop-j-preserved : goal.loop-j-preserved
+loop-j-preserved c =
+    ⊎_elim
+    (λ q. later-unlike _ _ _ _ _ _ c.requires.2 c.requires.3 _ c.node-n.ensures _ c.sharing-how.ensures _ c.rank-mine.ensures _ c.loop-j.invariant c.loop-j-test.true _ c.node-m.ensures (sym c.rank.ensures ∙ q.0.taken) q.1.left c.if-how-eq2.false (sym q.2.ensures ∙ q.3.left))
+    (λ q. later-other _ _ _ _ _ _ c.requires.2 c.requires.3 _ c.node-n.ensures _ c.sharing-how.ensures _ c.rank-mine.ensures _ c.loop-j.invariant c.loop-j-test.true _ c.node-m.ensures (λ r. q.left (c.rank.ensures ∙ r)))
+    c.if-rank-mine.branch
+
+pub returns : goal.returns
+returns c = later-end _ _ _ _ _ _ c.requires.2 c.requires.3 _ c.node-n.ensures _ c.sharing-how.ensures _ c.rank-mine.ensures _ c.loop-j.invariant c.loop-j-test.false

@@ -1,0 +1,18 @@
+-- `lookup::find_member` meets its contract: what is left of the run finds what the whole run finds.
+use mathlib.Core.Path.{sym, ◌∙◌, ap}
+use Prim.Native.Nat.{ℕ, ◌-◌, ◌<◌}
+use mathlib.Core.Bool.{Bool}
+use mathlib.Core.List.{List}
+use native.Mathlib.Omega.{arith}
+use Rattle.definitions.specs.Basics.{same}
+use Rattle.definitions.specs.Image.{enumeration, value_count, member_name, find_member}
+use Rattle.records.proofs.Room.{value_count-lt}
+use Rattle.records.proofs.Accepted.{known-placed, enum-inside, member-has}
+use Rattle.records.proofs.Search.{Left, left-run, run_fits, left-next, left-hit, left-none}
+use Rattle.lookup.proofs.find_member.Given as goal
+
+abbrev pub invariant-loop-i : goal.invariant-loop-i
+invariant-loop-i l = Left (named l.image l.name) (value_count l.image) (find_member l.image l.index l.name) l.end l.i
+
+abbrev pub decreases-loop-i : goal.decreases-loop-i
+decreases-loop-i l = l.end - l.i

@@ -1,0 +1,24 @@
+-- `message::required::has_required` meets its contract: all that lies below the root of a valid table.
+use native.Mathlib.Omega.{arith}
+use mathlib.Core.Path.{ap, ◌∙◌}
+use Rattle.definitions.specs.Scope.{within}
+use Rattle.nodes.proofs.Scopes.{within-root, there-root}
+use Rattle.validity.proofs.Root.{root-parts, root-end}
+use Rattle.validity.proofs.Values.{valid-root}
+use Rattle.live.proofs.Sounds.{sound-valid}
+use Rattle.message.proofs.Requires.{meaning-below}
+use borrow.Author.Rules.{rules}
+use Rattle.message.proofs.required.has_required.Goals as goal
+
+pub node-n-requires : goal.node-n-requires
+node-n-requires c = let r = root-parts _ (valid-root _ _ _ _ c.requires.2) in omega (arith, r.some, r.room)
+
+pub is_complete-requires : goal.is_complete-requires
+is_complete-requires c = (
+  c.requires.0,
+  there-root _ _ _ c.root_want-w.ensures c.requires.1,
+  rw (c.root_want-w.ensures, within-root _, root-end _ _ c.node-n.ensures) (sound-valid _ _ _ _ c.requires.2),
+)
+
+pub returns : goal.returns
+returns c = c.is_complete.ensures ∙ meaning-below _ _ _ _ _ (ap within c.root_want-w.ensures ∙ within-root _) _ (root-end _ _ c.node-n.ensures)

@@ -1,0 +1,12 @@
+-- `session::text::fill_bytes` is safe and ends. The measure is what is left of the slice, whose length stays. Assumes nothing.
+use borrow.Author.Rules.{rules}
+use mathlib.Core.Path.{◌≡◌, sym}
+use Prim.Native.Nat.{ℕ, ◌≤◌, ◌<◌, ◌-◌, ◌+◌}
+use lib.ListN.{length}
+use Rattle.session.proofs.text.fill_bytes.Given as goal
+
+abbrev pub invariant-loop-i : goal.invariant-loop-i
+invariant-loop-i l = length l.s ≡ length l.initial.s
+
+abbrev pub decreases-loop-i : goal.decreases-loop-i
+decreases-loop-i l = length l.initial.s - l.i

@@ -1,0 +1,30 @@
+-- `spelling::strings::print_str_to` meets its contract. The invariant: the quote and the bytes passed are written.
+use borrow.Author.Rules.{rules}
+use Prim.Native.Nat.{◌≤◌, ◌-◌}
+use lib.ListN.{length, take}
+use Rattle.definitions.specs.Print.{quote_bytes}
+use Rattle.spelling.specs.Written.{Written}
+use Rattle.spelling.proofs.Texts.{written-length}
+use Rattle.spelling.proofs.ValueLaws.{quoted-none, quoted-more, quoted-end, quoted-room-first, quoted-room, quoted-room-last}
+use Rattle.spelling.proofs.strings.print_str_to.Goals as goal
+
+pub put_byte-after-requires : goal.put_byte-after-requires
+put_byte-after-requires c = quoted-room-first _ c.requires
+
+pub loop-i-init : goal.loop-i-init
+loop-i-init c = (search rules, quoted-none _ c.args.s.now _)
+
+pub quote_byte_to-after-requires : goal.quote_byte_to-after-requires
+quote_byte_to-after-requires c = quoted-room _ _ c.loop-i-test.true c.requires c.put_byte-after.ensures c.loop-i.invariant.1
+
+pub loop-i-preserved : goal.loop-i-preserved
+loop-i-preserved c = (search rules, quoted-more _ _ c.loop-i-test.true c.loop-i.invariant.1 c.quote_byte_to-after.ensures)
+
+pub put_byte-requires : goal.put_byte-requires
+put_byte-requires c = quoted-room-last _ c.loop-i.i c.requires c.put_byte-after.ensures c.loop-i.invariant.1
+
+pub shape_of-buffer : goal.shape_of-buffer
+shape_of-buffer c = written-length (quoted-end _ _ c.loop-i-test.false c.put_byte-after.ensures c.loop-i.invariant.1 c.put_byte.ensures)
+
+pub returns : goal.returns
+returns c = quoted-end _ _ c.loop-i-test.false c.put_byte-after.ensures c.loop-i.invariant.1 c.put_byte.ensures
