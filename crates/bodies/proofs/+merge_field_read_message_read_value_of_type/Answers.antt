@@ -19,13 +19,13 @@ use borrow.Author.Rules.{rules}
 use Rattle.bodies.proofs.+merge_field_read_message_read_value_of_type.Goals as goal
 
 pub merge_field-want_in-asked-requires : goal.merge_field-want_in-asked-requires
-merge_field-want_in-asked-requires t c = (c.requires.1.1, c.requires.1.3, c.requires.1.4, c.requires.1.5)
+merge_field-want_in-asked-requires t c = (c.requires.1, c.requires.3, c.requires.4, c.requires.5)
 
 pub merge_field-read_value_of_type-requires : goal.merge_field-read_value_of_type-requires
 merge_field-read_value_of_type-requires t c =
-    let n = want-field _ c.requires.1.1.good c.args.w _ c.requires.1.3 c.requires.1.5 c.requires.1.4 in
-    let x = want-fits _ c.requires.1.1.good c.args.w _ c.requires.1.3 c.requires.1.5 c.requires.1.4 in
-    (omega (arith, c.requires.0), (c.requires.1.0, c.requires.1.1, c.requires.1.2, record { field = rw c.want_in-asked.ensures n; node = omega (arith, c.requires.1.2.nodes, c.requires.1.2.inside, c.requires.1.2.short); byte = omega (arith, c.requires.1.2.bytes, c.requires.1.2.inside, c.requires.1.2.short) }, rw c.want_in-asked.ensures x))
+    let n = want-field _ c.requires.1.good c.args.w _ c.requires.3 c.requires.5 c.requires.4 in
+    let x = want-fits _ c.requires.1.good c.args.w _ c.requires.3 c.requires.5 c.requires.4 in
+    (omega (arith, c.decreases), (c.requires.0, c.requires.1, c.requires.2, record { field = rw c.want_in-asked.ensures n; node = omega (arith, c.requires.2.nodes, c.requires.2.inside, c.requires.2.short); byte = omega (arith, c.requires.2.bytes, c.requires.2.inside, c.requires.2.short) }, rw c.want_in-asked.ensures x))
 
 pub merge_field-shape_of-nodes : goal.merge_field-shape_of-nodes
 merge_field-shape_of-nodes t c = c.read_value_of_type.auto.nodes
@@ -37,10 +37,10 @@ pub merge_field-returns : goal.merge_field-returns
 merge_field-returns t c = answers_by _ _ _ _ _ _ _ _ (ap (λ (v : Want). field (under c.args.left c.args.image.now c.args.s.now) c.args.image.now c.args.s.now v c.args.q) (sym c.want_in-asked.ensures)) c.read_value_of_type.ensures
 
 pub read_message-loop-t-init : goal.read_message-loop-t-init
-read_message-loop-t-init t c = begins _ _ _ c.args.w _ _ _ _ c.requires.1.2
+read_message-loop-t-init t c = begins _ _ _ c.args.w _ _ _ _ c.requires.2
 
 pub read_message-next_from-st-requires : goal.read_message-next_from-st-requires
-read_message-next_from-st-requires t c = (c.requires.1.0.0, fair-located _ _ c.loop-t.invariant.fair)
+read_message-next_from-st-requires t c = (c.requires.0.0, fair-located _ _ c.loop-t.invariant.fair)
 
 pub read_message-shape_of-nodes-in_default : goal.read_message-shape_of-nodes-in_default
 read_message-shape_of-nodes-in_default t c = c.loop-t.invariant.long
@@ -52,7 +52,7 @@ pub read_message-returns-in_default : goal.read_message-returns-in_default
 read_message-returns-in_default t c = ends _ _ _ c.args.w _ _ _ _ _ _ _ _ _ _ c.loop-t.invariant (no-answers _ _ _ _ _ _ _ _ _ (rest-bad _ _ _ c.args.w _ _ c.loop-t.invariant.fair.inside _ (scanned-bad _ _ _ _ c.next_from-st.ensures c.in_default.is)) (bad-is _ _ _ c.in_default.is c.bad.ensures))
 
 pub read_message-close_body-requires : goal.read_message-close_body-requires
-read_message-close_body-requires t c = (c.requires.1.1, c.requires.1.3, omega (arith, c.loop-t.invariant.fair.nodes, c.loop-t.invariant.fair.inside, c.loop-t.invariant.fair.short), omega (arith, c.loop-t.invariant.fair.bytes, c.loop-t.invariant.fair.inside, c.loop-t.invariant.fair.short))
+read_message-close_body-requires t c = (c.requires.1, c.requires.3, omega (arith, c.loop-t.invariant.fair.nodes, c.loop-t.invariant.fair.inside, c.loop-t.invariant.fair.short), omega (arith, c.loop-t.invariant.fair.bytes, c.loop-t.invariant.fair.inside, c.loop-t.invariant.fair.short))
 
 pub read_message-shape_of-nodes-then-t-closer : goal.read_message-shape_of-nodes-then-t-closer
 read_message-shape_of-nodes-then-t-closer t c = c.close_body.auto.nodes ∙ c.loop-t.invariant.long
@@ -82,7 +82,7 @@ pub read_message-slice_bounds-find_in-end : goal.read_message-slice_bounds-find_
 read_message-slice_bounds-find_in-end t c = let z = reached _ _ _ _ c.loop-t.invariant.fair.inside (scanned _ _ _ _ _ c.next_from-st.ensures c.in-Token.is) in omega (arith, z.forward, z.inside)
 
 pub read_message-find_in-requires : goal.read_message-find_in-requires
-read_message-find_in-requires t c = (c.requires.1.1, c.requires.1.3, c.requires.1.4)
+read_message-find_in-requires t c = (c.requires.1, c.requires.3, c.requires.4)
 
 pub read_message-shape_of-nodes-in_default-find_in : goal.read_message-shape_of-nodes-in_default-find_in
 read_message-shape_of-nodes-in_default-find_in t c = c.loop-t.invariant.long
@@ -106,7 +106,7 @@ pub read_message-merge_field-r-requires : goal.read_message-merge_field-r-requir
 read_message-merge_field-r-requires t c =
     let lt = name-falls _ _ _ c.args.w _ _ _ _ _ _ _ c.loop-t.invariant _ _ (scanned _ _ _ _ _ c.next_from-st.ensures c.in-Token.is) c.if-t-closer.false c.if-t-ne-NAME.false _ (found-is _ _ (sym c.in-At.is ∙ c.find_in.ensures)) (sym c.if-is_again.false ∙ c.is_again.ensures ∙ again-at _ _ _ _ _ _) in
     let fa = fair-after _ _ _ c.args.w _ _ _ _ _ _ _ c.loop-t.invariant _ _ (scanned _ _ _ _ _ c.next_from-st.ensures c.in-Token.is) c.if-t-closer.false c.if-t-ne-NAME.false _ (found-is _ _ (sym c.in-At.is ∙ c.find_in.ensures)) (sym c.if-is_again.false ∙ c.is_again.ensures ∙ again-at _ _ _ _ _ _) (scanned-line _ _ _ _ _ c.next_from-st.ensures c.in-Token.is) in
-    (omega (arith, c.requires.0, lt, c.loop-t.invariant.on, fa.inside), (c.requires.1.0, c.requires.1.1, fa, c.requires.1.3, found_inside _ _ _ _ (found-is _ _ (sym c.in-At.is ∙ c.find_in.ensures)), c.requires.1.4))
+    (omega (arith, c.decreases, lt, c.loop-t.invariant.on, fa.inside), (c.requires.0, c.requires.1, fa, c.requires.3, found_inside _ _ _ _ (found-is _ _ (sym c.in-At.is ∙ c.find_in.ensures)), c.requires.4))
 
 pub read_message-shape_of-nodes-in_default-r : goal.read_message-shape_of-nodes-in_default-r
 read_message-shape_of-nodes-in_default-r t c = c.merge_field-r.auto.nodes ∙ c.loop-t.invariant.long
@@ -127,7 +127,7 @@ pub read_message-loop-t-preserved : goal.read_message-loop-t-preserved
 read_message-loop-t-preserved t c = goes_on _ _ _ c.args.w _ _ _ _ _ _ _ c.loop-t.invariant _ _ (scanned _ _ _ _ _ c.next_from-st.ensures c.in-Token.is) c.if-t-closer.false c.if-t-ne-NAME.false _ (found-is _ _ (sym c.in-At.is ∙ c.find_in.ensures)) (sym c.if-is_again.false ∙ c.is_again.ensures ∙ again-at _ _ _ _ _ _) _ _ _ c.merge_field-r.ensures _ c.in-Done.is c.merge_field-r.auto.nodes c.merge_field-r.auto.pool _ (stands _ _ _ _ _ _ (c.has_key.ensures _ _ _) (c.has_value-value.ensures _ _ _))
 
 pub read_value_of_type-read_colon-requires : goal.read_value_of_type-read_colon-requires
-read_value_of_type-read_colon-requires t c = (c.requires.1.0, c.requires.1.1, c.requires.1.2, c.requires.1.3, c.requires.1.4)
+read_value_of_type-read_colon-requires t c = (c.requires.0, c.requires.1, c.requires.2, c.requires.3, c.requires.4)
 
 pub read_value_of_type-shape_of-nodes-then-w-lt-MESSAGE : goal.read_value_of_type-shape_of-nodes-then-w-lt-MESSAGE
 read_value_of_type-shape_of-nodes-then-w-lt-MESSAGE t c = c.read_colon.auto.nodes
@@ -139,28 +139,28 @@ pub read_value_of_type-returns-then-w-lt-MESSAGE : goal.read_value_of_type-retur
 read_value_of_type-returns-then-w-lt-MESSAGE t c = answers_by _ _ _ _ _ _ _ _ (field_plain _ _ _ _ _ c.if-w-lt-MESSAGE.true) c.read_colon.ensures
 
 pub read_value_of_type-next_from-st-requires : goal.read_value_of_type-next_from-st-requires
-read_value_of_type-next_from-st-requires t c = (c.requires.1.0.0, fair-located _ _ c.requires.1.2)
+read_value_of_type-next_from-st-requires t c = (c.requires.0.0, fair-located _ _ c.requires.2)
 
 pub read_value_of_type-returns-in_default : goal.read_value_of_type-returns-in_default
-read_value_of_type-returns-in_default t c = no-answers _ _ _ _ _ _ _ _ _ (field-bad _ _ _ _ _ c.if-w-lt-MESSAGE.false c.requires.1.4.most _ (scanned-bad _ _ _ _ c.next_from-st.ensures c.in_default.is)) (bad-is _ _ _ c.in_default.is c.bad.ensures)
+read_value_of_type-returns-in_default t c = no-answers _ _ _ _ _ _ _ _ _ (field-bad _ _ _ _ _ c.if-w-lt-MESSAGE.false c.requires.4.most _ (scanned-bad _ _ _ _ c.next_from-st.ensures c.in_default.is)) (bad-is _ _ _ c.in_default.is c.bad.ensures)
 
 pub read_value_of_type-returns-then-closer-eq-END : goal.read_value_of_type-returns-then-closer-eq-END
-read_value_of_type-returns-then-closer-eq-END t c = no-answers _ _ _ _ _ _ _ _ _ (field-other _ _ _ _ _ c.if-w-lt-MESSAGE.false c.requires.1.4.most _ _ (scanned _ _ _ _ _ c.next_from-st.ensures c.in-Token.is) _ c.closer_of-closer.ensures c.if-closer-eq-END.true) refl
+read_value_of_type-returns-then-closer-eq-END t c = no-answers _ _ _ _ _ _ _ _ _ (field-other _ _ _ _ _ c.if-w-lt-MESSAGE.false c.requires.4.most _ _ (scanned _ _ _ _ _ c.next_from-st.ensures c.in-Token.is) _ c.closer_of-closer.ensures c.if-closer-eq-END.true) refl
 
 pub read_value_of_type-returns-then-left-eq0 : goal.read_value_of_type-returns-then-left-eq0
-read_value_of_type-returns-then-left-eq0 t c = no-answers _ _ _ _ _ _ _ _ _ (field-deep _ _ _ _ _ c.if-w-lt-MESSAGE.false c.requires.1.4.most _ _ (scanned _ _ _ _ _ c.next_from-st.ensures c.in-Token.is) _ c.closer_of-closer.ensures c.if-closer-eq-END.false c.if-left-eq0.true) refl
+read_value_of_type-returns-then-left-eq0 t c = no-answers _ _ _ _ _ _ _ _ _ (field-deep _ _ _ _ _ c.if-w-lt-MESSAGE.false c.requires.4.most _ _ (scanned _ _ _ _ _ c.next_from-st.ensures c.in-Token.is) _ c.closer_of-closer.ensures c.if-closer-eq-END.false c.if-left-eq0.true) refl
 
 pub read_value_of_type-overflow_add-inside : goal.read_value_of_type-overflow_add-inside
-read_value_of_type-overflow_add-inside t c = omega (arith, c.requires.1.3.node)
+read_value_of_type-overflow_add-inside t c = omega (arith, c.requires.3.node)
 
 pub read_value_of_type-overflow_sub-left : goal.read_value_of_type-overflow_sub-left
 read_value_of_type-overflow_sub-left t c = omega (arith, c.if-left-eq0.false)
 
 pub read_value_of_type-read_message-r-requires : goal.read_value_of_type-read_message-r-requires
 read_value_of_type-read_message-r-requires t c =
-    let lt = child-falls c.args.left c.args.image.now c.args.s.now c.args.w c.args.q c.if-w-lt-MESSAGE.false c.requires.1.4.most _ _ (scanned _ _ _ _ _ c.next_from-st.ensures c.in-Token.is) _ c.closer_of-closer.ensures c.if-closer-eq-END.false c.if-left-eq0.false c.requires.1.2 in
-    let fa = child-fair c.args.left c.args.image.now c.args.s.now c.args.w c.args.q c.if-w-lt-MESSAGE.false c.requires.1.4.most _ _ (scanned _ _ _ _ _ c.next_from-st.ensures c.in-Token.is) _ c.closer_of-closer.ensures c.if-closer-eq-END.false c.if-left-eq0.false c.requires.1.2 (scanned-line _ _ _ _ _ c.next_from-st.ensures c.in-Token.is) in
-    (omega (arith, c.requires.0, lt, fa.inside), (c.requires.1.0, c.requires.1.1, fa, c.requires.1.4, nests-high _ c.if-w-lt-MESSAGE.false c.requires.1.4.most))
+    let lt = child-falls c.args.left c.args.image.now c.args.s.now c.args.w c.args.q c.if-w-lt-MESSAGE.false c.requires.4.most _ _ (scanned _ _ _ _ _ c.next_from-st.ensures c.in-Token.is) _ c.closer_of-closer.ensures c.if-closer-eq-END.false c.if-left-eq0.false c.requires.2 in
+    let fa = child-fair c.args.left c.args.image.now c.args.s.now c.args.w c.args.q c.if-w-lt-MESSAGE.false c.requires.4.most _ _ (scanned _ _ _ _ _ c.next_from-st.ensures c.in-Token.is) _ c.closer_of-closer.ensures c.if-closer-eq-END.false c.if-left-eq0.false c.requires.2 (scanned-line _ _ _ _ _ c.next_from-st.ensures c.in-Token.is) in
+    (omega (arith, c.decreases, lt, fa.inside), (c.requires.0, c.requires.1, fa, c.requires.4, nests-high _ c.if-w-lt-MESSAGE.false c.requires.4.most))
 
 pub read_value_of_type-shape_of-nodes-in_default-r : goal.read_value_of_type-shape_of-nodes-in_default-r
 read_value_of_type-shape_of-nodes-in_default-r t c = c.read_message-r.auto.nodes
@@ -169,10 +169,10 @@ pub read_value_of_type-shape_of-pool-in_default-r : goal.read_value_of_type-shap
 read_value_of_type-shape_of-pool-in_default-r t c = c.read_message-r.auto.pool
 
 pub read_value_of_type-returns-in_default-r : goal.read_value_of_type-returns-in_default-r
-read_value_of_type-returns-in_default-r t c = nested-no _ _ _ c.args.w c.args.q c.if-w-lt-MESSAGE.false c.requires.1.4.most _ _ (scanned _ _ _ _ _ c.next_from-st.ensures c.in-Token.is) _ c.closer_of-closer.ensures c.if-closer-eq-END.false c.if-left-eq0.false c.requires.1.2 _ _ _ _ _ c.read_message-r.ensures _ _ c.in_default-r.is
+read_value_of_type-returns-in_default-r t c = nested-no _ _ _ c.args.w c.args.q c.if-w-lt-MESSAGE.false c.requires.4.most _ _ (scanned _ _ _ _ _ c.next_from-st.ensures c.in-Token.is) _ c.closer_of-closer.ensures c.if-closer-eq-END.false c.if-left-eq0.false c.requires.2 _ _ _ _ _ c.read_message-r.ensures _ _ c.in_default-r.is
 
 pub read_value_of_type-put_body-requires : goal.read_value_of_type-put_body-requires
-read_value_of_type-put_body-requires t c = let z = nested-node _ _ _ c.args.w c.args.q c.if-w-lt-MESSAGE.false c.requires.1.4.most _ _ (scanned _ _ _ _ _ c.next_from-st.ensures c.in-Token.is) _ c.closer_of-closer.ensures c.if-closer-eq-END.false c.if-left-eq0.false c.requires.1.2 _ _ _ _ _ c.read_message-r.ensures _ c.in-Done.is in (c.requires.1.3.field, omega (arith, z))
+read_value_of_type-put_body-requires t c = let z = nested-node _ _ _ c.args.w c.args.q c.if-w-lt-MESSAGE.false c.requires.4.most _ _ (scanned _ _ _ _ _ c.next_from-st.ensures c.in-Token.is) _ c.closer_of-closer.ensures c.if-closer-eq-END.false c.if-left-eq0.false c.requires.2 _ _ _ _ _ c.read_message-r.ensures _ c.in-Done.is in (c.requires.3.field, omega (arith, z))
 
 pub read_value_of_type-shape_of-nodes : goal.read_value_of_type-shape_of-nodes
 read_value_of_type-shape_of-nodes t c = c.put_body.auto.nodes ∙ c.read_message-r.auto.nodes
@@ -181,4 +181,4 @@ pub read_value_of_type-shape_of-pool : goal.read_value_of_type-shape_of-pool
 read_value_of_type-shape_of-pool t c = c.read_message-r.auto.pool
 
 pub read_value_of_type-returns : goal.read_value_of_type-returns
-read_value_of_type-returns t c = nested-put _ _ _ c.args.w c.args.q c.if-w-lt-MESSAGE.false c.requires.1.4.most _ _ (scanned _ _ _ _ _ c.next_from-st.ensures c.in-Token.is) _ c.closer_of-closer.ensures c.if-closer-eq-END.false c.if-left-eq0.false c.requires.1.2 _ _ _ _ _ c.read_message-r.ensures _ c.in-Done.is c.read_message-r.auto.nodes _ c.put_body.ensures
+read_value_of_type-returns t c = nested-put _ _ _ c.args.w c.args.q c.if-w-lt-MESSAGE.false c.requires.4.most _ _ (scanned _ _ _ _ _ c.next_from-st.ensures c.in-Token.is) _ c.closer_of-closer.ensures c.if-closer-eq-END.false c.if-left-eq0.false c.requires.2 _ _ _ _ _ c.read_message-r.ensures _ c.in-Done.is c.read_message-r.auto.nodes _ c.put_body.ensures

@@ -14,6 +14,9 @@ use Rattle.laws.proofs.Lists.{all-fails}
 use Rattle.laws.proofs.Tests.{all_start, all_more, all_done}
 use Rattle.distinct.proofs.enums_distinct.Given as goal
 
+abbrev pub apart : List ℕ → ℕ → Bool
+apart s i = distinct (members_agree s) (enumeration s i)
+
 abbrev pub invariant-loop-i : goal.invariant-loop-i
 invariant-loop-i l = (l.i ≤ l.count) × (all l.i (apart l.image) ≡ true)
 

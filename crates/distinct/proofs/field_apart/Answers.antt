@@ -14,9 +14,7 @@ use Rattle.records.proofs.Accepted.{fields-name}
 use Rattle.laws.proofs.Lists.{all-fails}
 use Rattle.laws.proofs.Tests.{all_start, all_more, all_done, agree-first, agree-second, agree-neither}
 use Rattle.distinct.proofs.field_apart.Goals as goal
-
-abbrev apart : List ℕ → ℕ → ℕ → ℕ → Bool
-apart s first index i = not (fields_agree s (first + i) (first + index))
+use Rattle.distinct.proofs.field_apart.Invariants.{apart}
 
 module _ (s : List ℕ) (i j : ℕ) where
   numbers : (a b : Field) → a ≡ field s i → b ≡ field s j → a.number ≡ b.number → not (fields_agree s i j) ≡ false

@@ -16,12 +16,7 @@ use Rattle.laws.proofs.Lists.{all-fails}
 use Rattle.laws.proofs.Tests.{all_start, all_more, all_done}
 use Rattle.distinct.proofs.Marks.{mark-lt, seen_start, seen_next}
 use Rattle.distinct.proofs.fields_distinct.Goals as goal
-
-abbrev apart : List ℕ → ℕ → ℕ → Bool
-apart s first j = all j (λ i. not (fields_agree s (first + i) (first + j)))
-
-abbrev number : List ℕ → ℕ → ℕ
-number s i = (field s i).number
+use Rattle.distinct.proofs.fields_distinct.Invariants.{apart, number}
 
 -- what the calls of a turn make of what is kept
 kept : (s : List ℕ) (first j seen most : ℕ) → Seen (field_name s) (number s) first j seen most → (own : Field) → own ≡ field s (first + j) → (name : List ℕ) → name ≡ field_name s (first + j) → (at : ℕ) → at ≡ mark_of name → (seen' most' : ℕ) → seen' ≡ bit_or seen (2 ^ at) → most' ≡ max most own.number → Seen (field_name s) (number s) first (j + 1) seen' most'
@@ -36,7 +31,7 @@ field_new-requires c = (c.requires.0, omega (arith, c.requires.1, c.loop-j-test.
 
 pub returns-then-not-field_new : goal.returns-then-not-field_new
 unfolding distinct
-returns-then-not-field_new c = sym (all-fails c.args.run.count (apart c.args.image.now c.args.run.first) c.loop-j.j c.loop-j-test.true (sym c.field_new.ensures ∙ not-true c.field_new.result c.if-not-field_new.true))
+returns-then-not-field_new c = sym (all-fails c.args.run.count (apart c.args.image.now c.args.run.first) c.loop-j.j c.loop-j-test.true (sym c.field_new.ensures ∙ c.if-not-field_new.true))
 
 pub overflow_add-first : goal.overflow_add-first
 overflow_add-first c = omega (arith, c.requires.1, c.loop-j-test.true, field_count-lt c.args.image.now)
@@ -64,7 +59,7 @@ loop-j-smaller c = omega (arith, c.loop-j-test.true)
 pub loop-j-preserved : goal.loop-j-preserved
 loop-j-preserved c = (
   omega (arith, c.loop-j-test.true),
-  all_more c.loop-j.j (apart c.args.image.now c.args.run.first) c.loop-j.invariant.1 (sym c.field_new.ensures ∙ not-false c.field_new.result c.if-not-field_new.false),
+  all_more c.loop-j.j (apart c.args.image.now c.args.run.first) c.loop-j.invariant.1 (sym c.field_new.ensures ∙ c.if-not-field_new.false),
   kept c.args.image.now c.args.run.first c.loop-j.j c.loop-j.seen c.loop-j.most c.loop-j.invariant.2 c.field-own.result c.field-own.ensures c.field_name.result.now c.field_name.ensures c.mark.result c.mark.ensures c.marked-seen.result c.larger-most.result c.marked-seen.ensures c.larger-most.ensures,
 )
 

@@ -14,9 +14,7 @@ use Rattle.records.proofs.Accepted.{members-name}
 use Rattle.laws.proofs.Lists.{all-fails}
 use Rattle.laws.proofs.Tests.{all_start, all_more, all_done, agree-first, agree-second, agree-neither}
 use Rattle.distinct.proofs.member_apart.Goals as goal
-
-abbrev apart : List ℕ → ℕ → ℕ → ℕ → Bool
-apart s first index i = not (members_agree s (first + i) (first + index))
+use Rattle.distinct.proofs.member_apart.Invariants.{apart}
 
 module _ (s : List ℕ) (i j : ℕ) where
   numbers : (a b : Member) → a ≡ member s i → b ≡ member s j → a.number ≡ b.number → not (members_agree s i j) ≡ false

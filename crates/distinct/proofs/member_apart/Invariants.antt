@@ -15,6 +15,9 @@ use Rattle.laws.proofs.Lists.{all-fails}
 use Rattle.laws.proofs.Tests.{all_start, all_more, all_done, agree-first, agree-second, agree-neither}
 use Rattle.distinct.proofs.member_apart.Given as goal
 
+abbrev pub apart : List ℕ → ℕ → ℕ → ℕ → Bool
+apart s first index i = not (members_agree s (first + i) (first + index))
+
 abbrev pub invariant-loop-i : goal.invariant-loop-i
 invariant-loop-i l = (l.i ≤ l.index) × (all l.i (apart l.image l.first l.index) ≡ true)
 

@@ -16,12 +16,7 @@ use Rattle.laws.proofs.Lists.{all-fails}
 use Rattle.laws.proofs.Tests.{all_start, all_more, all_done}
 use Rattle.distinct.proofs.Marks.{mark-lt, seen_start, seen_next}
 use Rattle.distinct.proofs.members_distinct.Goals as goal
-
-abbrev apart : List ℕ → ℕ → ℕ → Bool
-apart s first j = all j (λ i. not (members_agree s (first + i) (first + j)))
-
-abbrev number : List ℕ → ℕ → ℕ
-number s i = (member s i).number
+use Rattle.distinct.proofs.members_distinct.Invariants.{apart, number}
 
 -- what the calls of a turn make of what is kept
 kept : (s : List ℕ) (first j seen most : ℕ) → Seen (member_name s) (number s) first j seen most → (own : Member) → own ≡ member s (first + j) → (name : List ℕ) → name ≡ member_name s (first + j) → (at : ℕ) → at ≡ mark_of name → (seen' most' : ℕ) → seen' ≡ bit_or seen (2 ^ at) → most' ≡ max most own.number → Seen (member_name s) (number s) first (j + 1) seen' most'
@@ -36,7 +31,7 @@ member_new-requires c = (c.requires.0, omega (arith, c.requires.1, c.loop-j-test
 
 pub returns-then-not-member_new : goal.returns-then-not-member_new
 unfolding distinct
-returns-then-not-member_new c = sym (all-fails c.args.run.count (apart c.args.image.now c.args.run.first) c.loop-j.j c.loop-j-test.true (sym c.member_new.ensures ∙ not-true c.member_new.result c.if-not-member_new.true))
+returns-then-not-member_new c = sym (all-fails c.args.run.count (apart c.args.image.now c.args.run.first) c.loop-j.j c.loop-j-test.true (sym c.member_new.ensures ∙ c.if-not-member_new.true))
 
 pub overflow_add-first : goal.overflow_add-first
 overflow_add-first c = omega (arith, c.requires.1, c.loop-j-test.true, value_count-lt c.args.image.now)
@@ -64,7 +59,7 @@ loop-j-smaller c = omega (arith, c.loop-j-test.true)
 pub loop-j-preserved : goal.loop-j-preserved
 loop-j-preserved c = (
   omega (arith, c.loop-j-test.true),
-  all_more c.loop-j.j (apart c.args.image.now c.args.run.first) c.loop-j.invariant.1 (sym c.member_new.ensures ∙ not-false c.member_new.result c.if-not-member_new.false),
+  all_more c.loop-j.j (apart c.args.image.now c.args.run.first) c.loop-j.invariant.1 (sym c.member_new.ensures ∙ c.if-not-member_new.false),
   kept c.args.image.now c.args.run.first c.loop-j.j c.loop-j.seen c.loop-j.most c.loop-j.invariant.2 c.member-own.result c.member-own.ensures c.member_name.result.now c.member_name.ensures c.mark.result c.mark.ensures c.marked-seen.result c.larger-most.result c.marked-seen.ensures c.larger-most.ensures,
 )
 

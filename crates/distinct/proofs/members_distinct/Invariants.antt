@@ -17,6 +17,12 @@ use Rattle.laws.proofs.Tests.{all_start, all_more, all_done}
 use Rattle.distinct.proofs.Marks.{mark-lt, seen_start, seen_next}
 use Rattle.distinct.proofs.members_distinct.Given as goal
 
+abbrev pub apart : List ℕ → ℕ → ℕ → Bool
+apart s first j = all j (λ i. not (members_agree s (first + i) (first + j)))
+
+abbrev pub number : List ℕ → ℕ → ℕ
+number s i = (member s i).number
+
 abbrev pub invariant-loop-j : goal.invariant-loop-j
 invariant-loop-j l = (l.j ≤ l.count) × (all l.j (apart l.image l.first) ≡ true) × Seen (member_name l.image) (number l.image) l.first l.j l.seen l.most
 

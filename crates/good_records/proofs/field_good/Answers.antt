@@ -71,19 +71,19 @@ module _ (s : List ℕ) (i : ℕ) where
   padding l p z h = ap (λ (n : ℕ). eqb n 0) (h ∙ ap (λ (a : ℕ). field_zero (drop (a + 9 * i) s)) (fields-start s l p))
 
 pub returns-then-not-name_good : goal.returns-then-not-name_good
-returns-then-not-name_good c = sym (bad-name c.args.image.now c.args.index c.field-record.result c.field-record.ensures (sym c.name_good.ensures ∙ not-true c.name_good.result c.if-not-name_good.true))
+returns-then-not-name_good c = sym (bad-name c.args.image.now c.args.index c.field-record.result c.field-record.ensures (sym c.name_good.ensures ∙ c.if-not-name_good.true))
 
 pub returns-then-record-lt1 : goal.returns-then-record-lt1
 returns-then-record-lt1 c = sym (bad-number c.args.image.now c.args.index c.field-record.result c.field-record.ensures (numberless c.args.image.now c.args.index c.field-record.result c.if-record-lt1.true))
 
 pub returns-then-not-key_good : goal.returns-then-not-key_good
-returns-then-not-key_good c = sym (bad-key c.args.image.now c.args.index c.field-record.result c.field-record.ensures (sym c.key_good.ensures ∙ not-true c.key_good.result c.if-not-key_good.true))
+returns-then-not-key_good c = sym (bad-key c.args.image.now c.args.index c.field-record.result c.field-record.ensures (sym c.key_good.ensures ∙ c.if-not-key_good.true))
 
 pub type_good-requires : goal.type_good-requires
 type_good-requires c = header-room c.args.image.now c.requires.0.whole
 
 pub returns-then-not-type_good : goal.returns-then-not-type_good
-returns-then-not-type_good c = sym (bad-type c.args.image.now c.args.index c.field-record.result c.field-record.ensures (sym c.type_good.ensures ∙ not-true c.type_good.result c.if-not-type_good.true))
+returns-then-not-type_good c = sym (bad-type c.args.image.now c.args.index c.field-record.result c.field-record.ensures (sym c.type_good.ensures ∙ c.if-not-type_good.true))
 
 pub overflow_mul-index : goal.overflow_mul-index
 overflow_mul-index c = omega (arith, field_room c.args.image.now c.args.layout c.requires.0 c.args.index c.requires.1)
@@ -100,7 +100,7 @@ returns c =
     let i = c.args.index in
     padding s i c.args.layout c.requires.0 c.field_zero.result c.field_zero.ensures
     ∙ zeros s i c.field-record.result c.field-record.ensures
-    (sym c.name_good.ensures ∙ not-false c.name_good.result c.if-not-name_good.false)
+    (sym c.name_good.ensures ∙ c.if-not-name_good.false)
     (numbered s i c.field-record.result c.field-record.ensures c.if-record-lt1.false)
-    (sym c.key_good.ensures ∙ not-false c.key_good.result c.if-not-key_good.false)
-    (sym c.type_good.ensures ∙ not-false c.type_good.result c.if-not-type_good.false)
+    (sym c.key_good.ensures ∙ c.if-not-key_good.false)
+    (sym c.type_good.ensures ∙ c.if-not-type_good.false)

@@ -21,13 +21,13 @@ pub field_good-requires : goal.field_good-requires
 field_good-requires c = (c.requires, omega (arith, c.field_count-count.ensures, c.loop-i-test.true))
 
 pub returns-then-not-field_good : goal.returns-then-not-field_good
-returns-then-not-field_good c = sym (all-fails (field_count c.args.image.now) (field_good c.args.image.now) c.loop-i.i (omega (arith, c.field_count-count.ensures, c.loop-i-test.true)) (sym c.field_good.ensures ∙ not-true c.field_good.result c.if-not-field_good.true))
+returns-then-not-field_good c = sym (all-fails (field_count c.args.image.now) (field_good c.args.image.now) c.loop-i.i (omega (arith, c.field_count-count.ensures, c.loop-i-test.true)) (sym c.field_good.ensures ∙ c.if-not-field_good.true))
 
 pub overflow_add-i : goal.overflow_add-i
 overflow_add-i c = omega (arith, c.field_count-count.ensures, field_count-lt c.args.image.now)
 
 pub loop-i-preserved : goal.loop-i-preserved
-loop-i-preserved c = (omega arith, all_more c.loop-i.i (field_good c.args.image.now) c.loop-i.invariant.1 (sym c.field_good.ensures ∙ not-false c.field_good.result c.if-not-field_good.false))
+loop-i-preserved c = (omega arith, all_more c.loop-i.i (field_good c.args.image.now) c.loop-i.invariant.1 (sym c.field_good.ensures ∙ c.if-not-field_good.false))
 
 pub returns : goal.returns
 returns c = all_done (field_good c.args.image.now) (omega (arith, c.loop-i.invariant.0, c.loop-i-test.false, c.field_count-count.ensures)) c.loop-i.invariant.1

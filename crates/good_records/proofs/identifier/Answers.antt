@@ -31,16 +31,16 @@ pub returns-then-text-eq0 : goal.returns-then-text-eq0
 returns-then-text-eq0 c = sym (none c.args.text.now c.if-text-eq0.true)
 
 pub returns-then-not-letter : goal.returns-then-not-letter
-returns-then-not-letter c = sym (bad-first c.args.text.now (omega arith) (sym c.letter.ensures ∙ not-true c.letter.result c.if-not-letter.true))
+returns-then-not-letter c = sym (bad-first c.args.text.now (omega arith) (sym c.letter.ensures ∙ c.if-not-letter.true))
 
 pub loop-i-init : goal.loop-i-init
-loop-i-init c = good-first c.args.text.now (omega arith) (sym c.letter.ensures ∙ not-false c.letter.result c.if-not-letter.false)
+loop-i-init c = good-first c.args.text.now (omega arith) (sym c.letter.ensures ∙ c.if-not-letter.false)
 
 pub returns-then-not-word : goal.returns-then-not-word
-returns-then-not-word c = sym (c.loop-i.invariant ∙ each-fails word c.args.text.now c.loop-i.i c.loop-i-test.true (sym c.word.ensures ∙ not-true c.word.result c.if-not-word.true))
+returns-then-not-word c = sym (c.loop-i.invariant ∙ each-fails word c.args.text.now c.loop-i.i c.loop-i-test.true (sym c.word.ensures ∙ c.if-not-word.true))
 
 pub loop-i-preserved : goal.loop-i-preserved
-loop-i-preserved c = c.loop-i.invariant ∙ sym (each_next word c.args.text.now c.loop-i.i c.loop-i-test.true (sym c.word.ensures ∙ not-false c.word.result c.if-not-word.false))
+loop-i-preserved c = c.loop-i.invariant ∙ sym (each_next word c.args.text.now c.loop-i.i c.loop-i-test.true (sym c.word.ensures ∙ c.if-not-word.false))
 
 pub returns : goal.returns
 returns c = sym (c.loop-i.invariant ∙ each-end word c.args.text.now c.loop-i.i c.loop-i-test.false)

@@ -36,7 +36,7 @@ module _ (s : List ℕ) (i : ℕ) where
   padding l p z h = ap (λ (n : ℕ). eqb n 0) (h ∙ ap (λ (a : ℕ). member_zero (drop (a + 7 * i) s)) (values-start s l p))
 
 pub returns-then-not-name_good : goal.returns-then-not-name_good
-returns-then-not-name_good c = sym (bad-name c.args.image.now c.args.index c.member-record.result c.member-record.ensures (sym c.name_good.ensures ∙ not-true c.name_good.result c.if-not-name_good.true))
+returns-then-not-name_good c = sym (bad-name c.args.image.now c.args.index c.member-record.result c.member-record.ensures (sym c.name_good.ensures ∙ c.if-not-name_good.true))
 
 pub overflow_mul-index : goal.overflow_mul-index
 overflow_mul-index c = omega (arith, value_room c.args.image.now c.args.layout c.requires.0 c.args.index c.requires.1)
@@ -52,4 +52,4 @@ returns c =
     let s = c.args.image.now in
     let i = c.args.index in
     padding s i c.args.layout c.requires.0 c.member_zero.result c.member_zero.ensures
-    ∙ zeros s i c.member-record.result c.member-record.ensures (sym c.name_good.ensures ∙ not-false c.name_good.result c.if-not-name_good.false)
+    ∙ zeros s i c.member-record.result c.member-record.ensures (sym c.name_good.ensures ∙ c.if-not-name_good.false)

@@ -21,13 +21,13 @@ pub member_good-requires : goal.member_good-requires
 member_good-requires c = (c.requires, omega (arith, c.value_count-count.ensures, c.loop-i-test.true))
 
 pub returns-then-not-member_good : goal.returns-then-not-member_good
-returns-then-not-member_good c = sym (all-fails (value_count c.args.image.now) (member_good c.args.image.now) c.loop-i.i (omega (arith, c.value_count-count.ensures, c.loop-i-test.true)) (sym c.member_good.ensures ∙ not-true c.member_good.result c.if-not-member_good.true))
+returns-then-not-member_good c = sym (all-fails (value_count c.args.image.now) (member_good c.args.image.now) c.loop-i.i (omega (arith, c.value_count-count.ensures, c.loop-i-test.true)) (sym c.member_good.ensures ∙ c.if-not-member_good.true))
 
 pub overflow_add-i : goal.overflow_add-i
 overflow_add-i c = omega (arith, c.value_count-count.ensures, value_count-lt c.args.image.now)
 
 pub loop-i-preserved : goal.loop-i-preserved
-loop-i-preserved c = (omega arith, all_more c.loop-i.i (member_good c.args.image.now) c.loop-i.invariant.1 (sym c.member_good.ensures ∙ not-false c.member_good.result c.if-not-member_good.false))
+loop-i-preserved c = (omega arith, all_more c.loop-i.i (member_good c.args.image.now) c.loop-i.invariant.1 (sym c.member_good.ensures ∙ c.if-not-member_good.false))
 
 pub returns : goal.returns
 returns c = all_done (member_good c.args.image.now) (omega (arith, c.loop-i.invariant.0, c.loop-i-test.false, c.value_count-count.ensures)) c.loop-i.invariant.1

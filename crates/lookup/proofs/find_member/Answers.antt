@@ -10,9 +10,7 @@ use Rattle.records.proofs.Room.{value_count-lt}
 use Rattle.records.proofs.Accepted.{known-placed, enum-inside, member-has}
 use Rattle.records.proofs.Search.{Left, left-run, run_fits, left-next, left-hit, left-none}
 use Rattle.lookup.proofs.find_member.Goals as goal
-
-abbrev named : List ℕ → List ℕ → ℕ → Bool
-named image name i = same (member_name image i) name
+use Rattle.lookup.proofs.find_member.Invariants.{named}
 
 pub enumeration-run-requires : goal.enumeration-run-requires
 enumeration-run-requires c = (known-placed c.requires.0, c.requires.1)

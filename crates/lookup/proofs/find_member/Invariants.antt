@@ -11,6 +11,9 @@ use Rattle.records.proofs.Accepted.{known-placed, enum-inside, member-has}
 use Rattle.records.proofs.Search.{Left, left-run, run_fits, left-next, left-hit, left-none}
 use Rattle.lookup.proofs.find_member.Given as goal
 
+abbrev pub named : List ℕ → List ℕ → ℕ → Bool
+named image name i = same (member_name image i) name
+
 abbrev pub invariant-loop-i : goal.invariant-loop-i
 invariant-loop-i l = Left (named l.image l.name) (value_count l.image) (find_member l.image l.index l.name) l.end l.i
 

@@ -12,9 +12,7 @@ use Rattle.records.proofs.Room.{value_count-lt}
 use Rattle.records.proofs.Accepted.{known-placed, enum-inside}
 use Rattle.records.proofs.Search.{Left, left-run, run_fits, left-next, left-hit, left-none}
 use Rattle.lookup.proofs.find_number.Goals as goal
-
-abbrev numbered : List ℕ → ℕ → ℕ → Bool
-numbered image number i = eqb (member image i).number number
+use Rattle.lookup.proofs.find_number.Invariants.{numbered}
 
 pub enumeration-run-requires : goal.enumeration-run-requires
 enumeration-run-requires c = (known-placed c.requires.0, c.requires.1)

@@ -13,6 +13,9 @@ use Rattle.records.proofs.Accepted.{known-placed, enum-inside}
 use Rattle.records.proofs.Search.{Left, left-run, run_fits, left-next, left-hit, left-none}
 use Rattle.lookup.proofs.find_number.Given as goal
 
+abbrev pub numbered : List ℕ → ℕ → ℕ → Bool
+numbered image number i = eqb (member image i).number number
+
 abbrev pub invariant-loop-i : goal.invariant-loop-i
 invariant-loop-i l = Left (numbered l.image l.number) (value_count l.image) (find_number l.image l.index l.number) l.end l.i
 

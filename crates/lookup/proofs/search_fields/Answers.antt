@@ -11,9 +11,7 @@ use Rattle.records.proofs.Room.{field_count-lt}
 use Rattle.records.proofs.Accepted.{known-placed, field-has}
 use Rattle.records.proofs.Search.{Left, left-next, left-hit, left-none}
 use Rattle.lookup.proofs.search_fields.Goals as goal
-
-abbrev named : List ℕ → List ℕ → ℕ → Bool
-named image name i = same (field_name image i) name
+use Rattle.lookup.proofs.search_fields.Invariants.{named}
 
 -- the run up to its end is the whole run
 whole : (p : ℕ → Bool) (first count : ℕ) → found_of (find p first (first + count - first)) ≡ found_of (find p first count)

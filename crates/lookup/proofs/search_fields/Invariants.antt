@@ -12,6 +12,9 @@ use Rattle.records.proofs.Accepted.{known-placed, field-has}
 use Rattle.records.proofs.Search.{Left, left-next, left-hit, left-none}
 use Rattle.lookup.proofs.search_fields.Given as goal
 
+abbrev pub named : List ℕ → List ℕ → ℕ → Bool
+named image name i = same (field_name image i) name
+
 abbrev pub invariant-loop-i : goal.invariant-loop-i
 invariant-loop-i l = Left (named l.image l.name) (field_count l.image) (find (named l.image l.name) l.initial.i (l.end - l.initial.i)) l.end l.i
 

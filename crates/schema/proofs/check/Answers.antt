@@ -18,13 +18,13 @@ module _ (s : List ℕ) where
   by-records e = rw e refl
 
 pub returns-then-not-header_good : goal.returns-then-not-header_good
-returns-then-not-header_good c = sym (no_header c.args.image.now (sym c.header_good.ensures ∙ not-true c.header_good.result c.if-not-header_good.true))
+returns-then-not-header_good c = sym (no_header c.args.image.now (sym c.header_good.ensures ∙ c.if-not-header_good.true))
 
 pub layout_of-requires : goal.layout_of-requires
-layout_of-requires c = (header-parts c.args.image.now (sym c.header_good.ensures ∙ not-false c.header_good.result c.if-not-header_good.false)).long
+layout_of-requires c = (header-parts c.args.image.now (sym c.header_good.ensures ∙ c.if-not-header_good.false)).long
 
 pub records_good-requires : goal.records_good-requires
-records_good-requires c = record { right = c.layout_of.ensures; whole = (header-parts c.args.image.now (sym c.header_good.ensures ∙ not-false c.header_good.result c.if-not-header_good.false)).whole }
+records_good-requires c = record { right = c.layout_of.ensures; whole = (header-parts c.args.image.now (sym c.header_good.ensures ∙ c.if-not-header_good.false)).whole }
 
 pub returns : goal.returns
-returns c = c.records_good.ensures ∙ sym (by-records c.args.image.now (sym c.header_good.ensures ∙ not-false c.header_good.result c.if-not-header_good.false))
+returns c = c.records_good.ensures ∙ sym (by-records c.args.image.now (sym c.header_good.ensures ∙ c.if-not-header_good.false))

@@ -13,9 +13,7 @@ use Rattle.records.proofs.Room.{header-room, enum_count-lt}
 use Rattle.laws.proofs.Lists.{all-fails}
 use Rattle.laws.proofs.Tests.{all_start, all_more, all_done}
 use Rattle.schema.proofs.enums_filled.Goals as goal
-
-abbrev filled : List ℕ → ℕ → Bool
-filled s i = leb 1 (enumeration s i).count
+use Rattle.schema.proofs.enums_filled.Invariants.{filled}
 
 pub enum_count-count-requires : goal.enum_count-count-requires
 enum_count-count-requires c = header-room c.args.image.now c.requires.whole

@@ -14,6 +14,9 @@ use Rattle.laws.proofs.Lists.{all-fails}
 use Rattle.laws.proofs.Tests.{all_start, all_more, all_done}
 use Rattle.schema.proofs.enums_filled.Given as goal
 
+abbrev pub filled : List ℕ → ℕ → Bool
+filled s i = leb 1 (enumeration s i).count
+
 abbrev pub invariant-loop-i : goal.invariant-loop-i
 invariant-loop-i l = (l.i ≤ l.count) × (all l.i (filled l.image) ≡ true)
 

@@ -44,7 +44,7 @@ pub runs_good-requires : goal.runs_good-requires
 runs_good-requires c = (omega (arith, c.message_count.ensures, message_count-lt c.args.image.now), omega (arith, c.message_count.ensures, messages-room c.args.image.now c.requires.whole))
 
 pub returns-then-not-runs_good : goal.returns-then-not-runs_good
-returns-then-not-runs_good c = fails c.args.image.now (running (message c.args.image.now) (message_count c.args.image.now) (field_count c.args.image.now)) (λ p. p.messages) (sym (message-runs c.args.image.now c.runs_good.result c.message_count.result c.field_count.result c.message_count.ensures c.field_count.ensures c.runs_good.ensures) ∙ not-true c.runs_good.result c.if-not-runs_good.true)
+returns-then-not-runs_good c = fails c.args.image.now (running (message c.args.image.now) (message_count c.args.image.now) (field_count c.args.image.now)) (λ p. p.messages) (sym (message-runs c.args.image.now c.runs_good.result c.message_count.result c.field_count.result c.message_count.ensures c.field_count.ensures c.runs_good.ensures) ∙ c.if-not-runs_good.true)
 
 pub enum_count-requires : goal.enum_count-requires
 enum_count-requires c = header-room c.args.image.now c.requires.whole
@@ -56,52 +56,52 @@ pub runs_good-requires-2 : goal.runs_good-requires-2
 runs_good-requires-2 c = (omega (arith, c.enum_count.ensures, enum_count-lt c.args.image.now), omega (arith, c.enum_count.ensures, enums-room c.args.image.now c.args.layout c.requires))
 
 pub returns-then-not-runs_good-2 : goal.returns-then-not-runs_good-2
-returns-then-not-runs_good-2 c = fails c.args.image.now (running (enumeration c.args.image.now) (enum_count c.args.image.now) (value_count c.args.image.now)) (λ p. p.enums) (sym (enum-runs c.args.image.now c.runs_good-2.result c.args.layout.enums c.enum_count.result c.value_count.result (enums-start c.args.image.now c.args.layout c.requires) c.enum_count.ensures c.value_count.ensures c.runs_good-2.ensures) ∙ not-true c.runs_good-2.result c.if-not-runs_good-2.true)
+returns-then-not-runs_good-2 c = fails c.args.image.now (running (enumeration c.args.image.now) (enum_count c.args.image.now) (value_count c.args.image.now)) (λ p. p.enums) (sym (enum-runs c.args.image.now c.runs_good-2.result c.args.layout.enums c.enum_count.result c.value_count.result (enums-start c.args.image.now c.args.layout c.requires) c.enum_count.ensures c.value_count.ensures c.runs_good-2.ensures) ∙ c.if-not-runs_good-2.true)
 
 pub enums_filled-requires : goal.enums_filled-requires
 enums_filled-requires c = c.requires
 
 pub returns-then-not-enums_filled : goal.returns-then-not-enums_filled
-returns-then-not-enums_filled c = fails c.args.image.now (all (enum_count c.args.image.now) (λ i. leb 1 (enumeration c.args.image.now i).count)) (λ p. p.filled) (sym c.enums_filled.ensures ∙ not-true c.enums_filled.result c.if-not-enums_filled.true)
+returns-then-not-enums_filled c = fails c.args.image.now (all (enum_count c.args.image.now) (λ i. leb 1 (enumeration c.args.image.now i).count)) (λ p. p.filled) (sym c.enums_filled.ensures ∙ c.if-not-enums_filled.true)
 
 pub fields_good-requires : goal.fields_good-requires
 fields_good-requires c = c.requires
 
 pub returns-then-not-fields_good : goal.returns-then-not-fields_good
-returns-then-not-fields_good c = fails c.args.image.now (all (field_count c.args.image.now) (field_good c.args.image.now)) (λ p. p.fields) (sym c.fields_good.ensures ∙ not-true c.fields_good.result c.if-not-fields_good.true)
+returns-then-not-fields_good c = fails c.args.image.now (all (field_count c.args.image.now) (field_good c.args.image.now)) (λ p. p.fields) (sym c.fields_good.ensures ∙ c.if-not-fields_good.true)
 
 pub members_good-requires : goal.members_good-requires
 members_good-requires c = c.requires
 
 pub returns-then-not-members_good : goal.returns-then-not-members_good
-returns-then-not-members_good c = fails c.args.image.now (all (value_count c.args.image.now) (member_good c.args.image.now)) (λ p. p.members) (sym c.members_good.ensures ∙ not-true c.members_good.result c.if-not-members_good.true)
+returns-then-not-members_good c = fails c.args.image.now (all (value_count c.args.image.now) (member_good c.args.image.now)) (λ p. p.members) (sym c.members_good.ensures ∙ c.if-not-members_good.true)
 
 pub messages_distinct-requires : goal.messages_distinct-requires
 messages_distinct-requires c =
     record {
       placed = c.requires;
-      runs = sym (message-runs c.args.image.now c.runs_good.result c.message_count.result c.field_count.result c.message_count.ensures c.field_count.ensures c.runs_good.ensures) ∙ not-false c.runs_good.result c.if-not-runs_good.false;
-      good = sym c.fields_good.ensures ∙ not-false c.fields_good.result c.if-not-fields_good.false;
+      runs = sym (message-runs c.args.image.now c.runs_good.result c.message_count.result c.field_count.result c.message_count.ensures c.field_count.ensures c.runs_good.ensures) ∙ c.if-not-runs_good.false;
+      good = sym c.fields_good.ensures ∙ c.if-not-fields_good.false;
     }
 
 pub returns-then-not-messages_distinct : goal.returns-then-not-messages_distinct
-returns-then-not-messages_distinct c = fails c.args.image.now (all (message_count c.args.image.now) (λ i. distinct (fields_agree c.args.image.now) (message c.args.image.now i))) (λ p. p.apart) (sym c.messages_distinct.ensures ∙ not-true c.messages_distinct.result c.if-not-messages_distinct.true)
+returns-then-not-messages_distinct c = fails c.args.image.now (all (message_count c.args.image.now) (λ i. distinct (fields_agree c.args.image.now) (message c.args.image.now i))) (λ p. p.apart) (sym c.messages_distinct.ensures ∙ c.if-not-messages_distinct.true)
 
 pub enums_distinct-requires : goal.enums_distinct-requires
 enums_distinct-requires c =
     record {
       placed = c.requires;
-      runs = sym (enum-runs c.args.image.now c.runs_good-2.result c.args.layout.enums c.enum_count.result c.value_count.result (enums-start c.args.image.now c.args.layout c.requires) c.enum_count.ensures c.value_count.ensures c.runs_good-2.ensures) ∙ not-false c.runs_good-2.result c.if-not-runs_good-2.false;
-      good = sym c.members_good.ensures ∙ not-false c.members_good.result c.if-not-members_good.false;
+      runs = sym (enum-runs c.args.image.now c.runs_good-2.result c.args.layout.enums c.enum_count.result c.value_count.result (enums-start c.args.image.now c.args.layout c.requires) c.enum_count.ensures c.value_count.ensures c.runs_good-2.ensures) ∙ c.if-not-runs_good-2.false;
+      good = sym c.members_good.ensures ∙ c.if-not-members_good.false;
     }
 
 pub returns : goal.returns
 returns c =
     c.enums_distinct.ensures
     ∙ last c.args.image.now
-    (sym (message-runs c.args.image.now c.runs_good.result c.message_count.result c.field_count.result c.message_count.ensures c.field_count.ensures c.runs_good.ensures) ∙ not-false c.runs_good.result c.if-not-runs_good.false)
-    (sym (enum-runs c.args.image.now c.runs_good-2.result c.args.layout.enums c.enum_count.result c.value_count.result (enums-start c.args.image.now c.args.layout c.requires) c.enum_count.ensures c.value_count.ensures c.runs_good-2.ensures) ∙ not-false c.runs_good-2.result c.if-not-runs_good-2.false)
-    (sym c.enums_filled.ensures ∙ not-false c.enums_filled.result c.if-not-enums_filled.false)
-    (sym c.fields_good.ensures ∙ not-false c.fields_good.result c.if-not-fields_good.false)
-    (sym c.members_good.ensures ∙ not-false c.members_good.result c.if-not-members_good.false)
-    (sym c.messages_distinct.ensures ∙ not-false c.messages_distinct.result c.if-not-messages_distinct.false)
+    (sym (message-runs c.args.image.now c.runs_good.result c.message_count.result c.field_count.result c.message_count.ensures c.field_count.ensures c.runs_good.ensures) ∙ c.if-not-runs_good.false)
+    (sym (enum-runs c.args.image.now c.runs_good-2.result c.args.layout.enums c.enum_count.result c.value_count.result (enums-start c.args.image.now c.args.layout c.requires) c.enum_count.ensures c.value_count.ensures c.runs_good-2.ensures) ∙ c.if-not-runs_good-2.false)
+    (sym c.enums_filled.ensures ∙ c.if-not-enums_filled.false)
+    (sym c.fields_good.ensures ∙ c.if-not-fields_good.false)
+    (sym c.members_good.ensures ∙ c.if-not-members_good.false)
+    (sym c.messages_distinct.ensures ∙ c.if-not-messages_distinct.false)

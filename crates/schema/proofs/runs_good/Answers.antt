@@ -13,10 +13,7 @@ use Rattle.definitions.specs.Image.{span_of}
 use Rattle.bits.proofs.BitLaws.{bits_below}
 use Rattle.laws.proofs.Tests.{begins, all_start, all_more, total-step, running-fails, running-done}
 use Rattle.schema.proofs.runs_good.Goals as goal
-
--- the run at an index
-abbrev at-index : List ℕ → ℕ → ℕ → Span
-at-index image at i = span_of (drop (at + 3 * i) image)
+use Rattle.schema.proofs.runs_good.Invariants.{at-index}
 
 record Passed (f : ℕ → Span) (count i total : ℕ) : Type 0 where
   below : i ≤ count

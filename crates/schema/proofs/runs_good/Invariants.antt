@@ -14,6 +14,10 @@ use Rattle.bits.proofs.BitLaws.{bits_below}
 use Rattle.laws.proofs.Tests.{begins, all_start, all_more, total-step, running-fails, running-done}
 use Rattle.schema.proofs.runs_good.Given as goal
 
+-- the run at an index
+abbrev pub at-index : List ℕ → ℕ → ℕ → Span
+at-index image at i = span_of (drop (at + 3 * i) image)
+
 abbrev pub invariant-loop-i : goal.invariant-loop-i
 invariant-loop-i l = Passed (at-index l.image l.at) l.count l.i l.total
 

@@ -26,7 +26,7 @@ pub shape_of-pool-in_default : goal.shape_of-pool-in_default
 shape_of-pool-in_default c = turn-length _ _ _ _ _ _ _ (c.loop-i.invariant _ c.put_run.ensures)
 
 pub returns-in_default : goal.returns-in_default
-returns-in_default c = turn-bad _ _ _ _ _ _ _ (c.loop-i.invariant _ c.put_run.ensures) c.loop-i-test.true (sym c.first_piece.ensures ∙ c.in_default.is)
+returns-in_default c = let w = turn-bad _ _ _ _ _ _ _ (c.loop-i.invariant _ c.put_run.ensures) c.loop-i-test.true (sym c.first_piece.ensures ∙ c.in_default.is) in record { answer = w.0; stored = w.1 }
 
 pub overflow_add-at : goal.overflow_add-at
 overflow_add-at c = omega (arith, (c.loop-i.invariant _ c.put_run.ensures).few, c.loop-i-test.true, c.requires.1)
@@ -47,4 +47,4 @@ pub shape_of-pool : goal.shape_of-pool
 shape_of-pool c = turn-length _ _ _ _ _ _ _ (c.loop-i.invariant _ c.put_run.ensures)
 
 pub returns : goal.returns
-returns c = turn-done _ _ _ _ _ _ _ (c.loop-i.invariant _ c.put_run.ensures) c.loop-i-test.false
+returns c = let w = turn-done _ _ _ _ _ _ _ (c.loop-i.invariant _ c.put_run.ensures) c.loop-i-test.false in record { answer = w.0; stored = w.1 }

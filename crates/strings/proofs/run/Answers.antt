@@ -15,13 +15,13 @@ pub returns-then-n-most : goal.returns-then-n-most
 returns-then-n-most c = counting-full _ _ _ _ _ _ c.loop-i.invariant c.if-n-most.true
 
 pub returns-then-not-digit_in : goal.returns-then-not-digit_in
-returns-then-not-digit_in c = counting-stop _ _ _ _ _ _ c.loop-i.invariant c.loop-i-test.true (sym c.digit_in.ensures ∙ not-true _ c.if-not-digit_in.true)
+returns-then-not-digit_in c = counting-stop _ _ _ _ _ _ c.loop-i.invariant c.loop-i-test.true (sym c.digit_in.ensures ∙ c.if-not-digit_in.true)
 
 pub overflow_add-n : goal.overflow_add-n
 overflow_add-n c = omega (arith, c.loop-i.invariant.passed)
 
 pub loop-i-preserved : goal.loop-i-preserved
-loop-i-preserved c = counting-on _ _ _ _ _ _ c.loop-i.invariant c.loop-i-test.true c.if-n-most.false (sym c.digit_in.ensures ∙ not-false _ c.if-not-digit_in.false)
+loop-i-preserved c = counting-on _ _ _ _ _ _ c.loop-i.invariant c.loop-i-test.true c.if-n-most.false (sym c.digit_in.ensures ∙ c.if-not-digit_in.false)
 
 pub returns : goal.returns
 returns c = counting-done _ _ _ _ _ _ c.loop-i.invariant c.loop-i-test.false

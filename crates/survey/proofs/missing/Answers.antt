@@ -15,20 +15,20 @@ use Rattle.survey.proofs.Tables.{taken-parts, missing-none, missing-some}
 use Rattle.survey.proofs.missing.Goals as goal
 
 pub returns-then-not-is_taken : goal.returns-then-not-is_taken
-returns-then-not-is_taken c = ap missing_of (missing-none _ _ _ _ (sym c.is_taken.ensures ∙ not-true _ c.if-not-is_taken.true))
+returns-then-not-is_taken c = ap missing_of (missing-none _ _ _ _ (sym c.is_taken.ensures ∙ c.if-not-is_taken.true))
 
 pub layout_of-layout-requires : goal.layout_of-layout-requires
-layout_of-layout-requires c = (accepted-header _ (taken-parts _ _ _ _ (sym c.is_taken.ensures ∙ not-false _ c.if-not-is_taken.false)).good).long
+layout_of-layout-requires c = (accepted-header _ (taken-parts _ _ _ _ (sym c.is_taken.ensures ∙ c.if-not-is_taken.false)).good).long
 
 pub node-n-requires : goal.node-n-requires
-node-n-requires c = let r = root-parts _ (valid-root _ _ _ _ (taken-parts _ _ _ _ (sym c.is_taken.ensures ∙ not-false _ c.if-not-is_taken.false)).valued) in omega (arith, r.some, r.room)
+node-n-requires c = let r = root-parts _ (valid-root _ _ _ _ (taken-parts _ _ _ _ (sym c.is_taken.ensures ∙ c.if-not-is_taken.false)).valued) in omega (arith, r.some, r.room)
 
 pub lacking-requires : goal.lacking-requires
 lacking-requires c = (
-  record { right = c.layout_of-layout.ensures; good = (taken-parts _ _ _ _ (sym c.is_taken.ensures ∙ not-false _ c.if-not-is_taken.false)).good },
-  there-root _ _ _ c.root_want-w.ensures (taken-parts _ _ _ _ (sym c.is_taken.ensures ∙ not-false _ c.if-not-is_taken.false)).rooted,
-  rw (c.root_want-w.ensures, within-root _, root-end _ _ c.node-n.ensures) (sound-valid _ _ _ _ (taken-parts _ _ _ _ (sym c.is_taken.ensures ∙ not-false _ c.if-not-is_taken.false)).valued),
+  record { right = c.layout_of-layout.ensures; good = (taken-parts _ _ _ _ (sym c.is_taken.ensures ∙ c.if-not-is_taken.false)).good },
+  there-root _ _ _ c.root_want-w.ensures (taken-parts _ _ _ _ (sym c.is_taken.ensures ∙ c.if-not-is_taken.false)).rooted,
+  rw (c.root_want-w.ensures, within-root _, root-end _ _ c.node-n.ensures) (sound-valid _ _ _ _ (taken-parts _ _ _ _ (sym c.is_taken.ensures ∙ c.if-not-is_taken.false)).valued),
 )
 
 pub returns : goal.returns
-returns c = c.lacking.ensures ∙ ap missing_of (lacking-below _ _ _ _ _ (ap within c.root_want-w.ensures ∙ within-root _) _ (root-end _ _ c.node-n.ensures) ∙ missing-some _ _ _ _ (sym c.is_taken.ensures ∙ not-false _ c.if-not-is_taken.false))
+returns c = c.lacking.ensures ∙ ap missing_of (lacking-below _ _ _ _ _ (ap within c.root_want-w.ensures ∙ within-root _) _ (root-end _ _ c.node-n.ensures) ∙ missing-some _ _ _ _ (sym c.is_taken.ensures ∙ c.if-not-is_taken.false))

@@ -15,10 +15,10 @@ pub returns-then-is_unknown : goal.returns-then-is_unknown
 returns-then-is_unknown c = unknown-message _ _ _ (sym c.is_unknown.ensures ∙ c.if-is_unknown.true) c.if-w-eq-ENTRY.false c.if-i-lt1.false
 
 pub returns-then-not-has_field : goal.returns-then-not-has_field
-returns-then-not-has_field c = fits-no _ _ _ (sym c.is_unknown.ensures ∙ c.if-is_unknown.false) (sym c.has_field.ensures ∙ not-true _ c.if-not-has_field.true)
+returns-then-not-has_field c = fits-no _ _ _ (sym c.is_unknown.ensures ∙ c.if-is_unknown.false) (sym c.has_field.ensures ∙ c.if-not-has_field.true)
 
 pub want-asked-requires : goal.want-asked-requires
-want-asked-requires c = (c.requires.0, c.requires.1, sym c.has_field.ensures ∙ not-false _ c.if-not-has_field.false)
+want-asked-requires c = (c.requires.0, c.requires.1, sym c.has_field.ensures ∙ c.if-not-has_field.false)
 
 pub returns : goal.returns
-returns c = fits-kind _ _ _ (sym c.is_unknown.ensures ∙ c.if-is_unknown.false) (sym c.has_field.ensures ∙ not-false _ c.if-not-has_field.false) _ c.want-asked.ensures
+returns c = fits-kind _ _ _ (sym c.is_unknown.ensures ∙ c.if-is_unknown.false) (sym c.has_field.ensures ∙ c.if-not-has_field.false) _ c.want-asked.ensures

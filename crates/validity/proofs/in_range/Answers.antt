@@ -18,4 +18,4 @@ pub returns-else-n-ne0 : goal.returns-else-n-ne0
 returns-else-n-ne0 c = range-bool _ _ c.in-5.is c.if-n-ne0.false
 
 pub returns-in_default : goal.returns-in_default
-returns-in_default c = range-any _ _ c.in_default.rest.0.0.1 c.in_default.rest.0.1 c.in_default.rest.1
+returns-in_default c = range-any _ _ c.in_default.in_default-own.rest.0.0.1 c.in_default.in_default-own.rest.0.1 c.in_default.in_default-own.rest.1

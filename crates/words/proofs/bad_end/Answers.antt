@@ -17,10 +17,10 @@ pub goes_with-requires : goal.goes_with-requires
 goes_with-requires c = c.requires.0
 
 pub returns-then-not-goes_with : goal.returns-then-not-goes_with
-returns-then-not-goes_with c = front-stop _ _ _ c.loop-i-test.true (sym c.goes_with.ensures ∙ not-true _ c.if-not-goes_with.true) ∙ c.loop-i.invariant
+returns-then-not-goes_with c = front-stop _ _ _ c.loop-i-test.true (sym c.goes_with.ensures ∙ c.if-not-goes_with.true) ∙ c.loop-i.invariant
 
 pub loop-i-preserved : goal.loop-i-preserved
-loop-i-preserved c = front-on _ _ _ c.loop-i-test.true (sym c.goes_with.ensures ∙ not-false _ c.if-not-goes_with.false) ∙ c.loop-i.invariant
+loop-i-preserved c = front-on _ _ _ c.loop-i-test.true (sym c.goes_with.ensures ∙ c.if-not-goes_with.false) ∙ c.loop-i.invariant
 
 pub returns : goal.returns
 returns c = front-end _ _ _ c.loop-i-test.false ∙ c.loop-i.invariant

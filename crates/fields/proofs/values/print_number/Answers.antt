@@ -16,7 +16,7 @@ pub print_signed-requires : goal.print_signed-requires
 print_signed-requires c = as_room (number-signed _ _ _ _ c.if-kind-lt1.false c.if-kind-lt3.true) c.requires.2
 
 pub print_decimal-requires : goal.print_decimal-requires
-print_decimal-requires c = as_room (number-plain _ _ _ _ (⊎_elim (λ w. inl w.taken) (λ w. inr w.1.left) c.in_default.branch) c.in_default-1.rest.0.1 c.in_default-1.rest.1) c.requires.2
+print_decimal-requires c = as_room (number-plain _ _ _ _ (⊎_elim (λ w. inl w.taken) (λ w. inr w.1.left) c.in_default.branch) c.in_default-1.in_default-1-own.rest.0.1 c.in_default-1.in_default-1-own.rest.1) c.requires.2
 
 pub returns-in-5 : goal.returns-in-5
 returns-in-5 c = as_written (sym (number-bool _ _ _ _ c.in-5.is)) c.print_bool.ensures
@@ -28,4 +28,4 @@ pub returns-in-1 : goal.returns-in-1
 returns-in-1 c = as_written (sym (number-signed _ _ _ _ c.if-kind-lt1.false c.if-kind-lt3.true)) c.print_signed.ensures
 
 pub returns-in_default : goal.returns-in_default
-returns-in_default c = as_written (sym (number-plain _ _ _ _ (⊎_elim (λ w. inl w.taken) (λ w. inr w.1.left) c.in_default.branch) c.in_default-1.rest.0.1 c.in_default-1.rest.1)) c.print_decimal.ensures
+returns-in_default c = as_written (sym (number-plain _ _ _ _ (⊎_elim (λ w. inl w.taken) (λ w. inr w.1.left) c.in_default.branch) c.in_default-1.in_default-1-own.rest.0.1 c.in_default-1.in_default-1-own.rest.1)) c.print_decimal.ensures

@@ -9,10 +9,10 @@ use Rattle.laws.proofs.Tests.{front-on, front-stop, front-end}
 use Rattle.lexer.proofs.tokens.hex_end.Goals as goal
 
 pub returns-then-not-hex_digit : goal.returns-then-not-hex_digit
-returns-then-not-hex_digit c = front-stop hex_digit _ _ c.loop-i-test.true (sym c.hex_digit.ensures ∙ not-true _ c.if-not-hex_digit.true) ∙ c.loop-i.invariant
+returns-then-not-hex_digit c = front-stop hex_digit _ _ c.loop-i-test.true (sym c.hex_digit.ensures ∙ c.if-not-hex_digit.true) ∙ c.loop-i.invariant
 
 pub loop-i-preserved : goal.loop-i-preserved
-loop-i-preserved c = front-on hex_digit _ _ c.loop-i-test.true (sym c.hex_digit.ensures ∙ not-false _ c.if-not-hex_digit.false) ∙ c.loop-i.invariant
+loop-i-preserved c = front-on hex_digit _ _ c.loop-i-test.true (sym c.hex_digit.ensures ∙ c.if-not-hex_digit.false) ∙ c.loop-i.invariant
 
 pub returns : goal.returns
 returns c = front-end hex_digit _ _ c.loop-i-test.false ∙ c.loop-i.invariant

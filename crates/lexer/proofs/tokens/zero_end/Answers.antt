@@ -15,4 +15,4 @@ pub returns-else-end-x : goal.returns-else-end-x
 returns-else-end-x c = omega (arith, c.hex_end-end.ensures, zero-hex c.args.text.now (c.args.at + 1) c.if-text-x.false c.in-120.is (omega (arith, c.hex_end-end.ensures)))
 
 pub returns-in_default : goal.returns-in_default
-returns-in_default c = omega (arith, c.digits_end.ensures, zero-octal c.args.text.now (c.args.at + 1) c.if-text-x.false c.in_default.rest.1)
+returns-in_default c = omega (arith, c.digits_end.ensures, zero-octal c.args.text.now (c.args.at + 1) c.if-text-x.false c.in_default.in_default-own.rest.1)

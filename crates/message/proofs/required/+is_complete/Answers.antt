@@ -10,22 +10,22 @@ use Rattle.message.proofs.Requires.{Walk, walk-not, walk_start, walk_end, walk-o
 use Rattle.message.proofs.required.+is_complete.Goals as goal
 
 pub filled-requires : goal.filled-requires
-filled-requires t c = (c.requires.1.0, c.requires.1.1, c.requires.1.2.tiled, c.requires.1.2.room)
+filled-requires t c = (c.requires.0, c.requires.1, c.requires.2.tiled, c.requires.2.room)
 
 pub returns-then-not-filled : goal.returns-then-not-filled
-returns-then-not-filled t c = walk-not _ _ _ _ _ _ c.requires.1.2 (sym (c.filled.ensures _) ∙ not-true _ c.if-not-filled.true)
+returns-then-not-filled t c = walk-not _ _ _ _ _ _ c.requires.2 (sym (c.filled.ensures _) ∙ c.if-not-filled.true)
 
 pub loop-i-init : goal.loop-i-init
-loop-i-init t c = walk_start _ _ _ _ _ _ c.requires.1.2 (sym (c.filled.ensures _) ∙ not-false _ c.if-not-filled.false)
+loop-i-init t c = walk_start _ _ _ _ _ _ c.requires.2 (sym (c.filled.ensures _) ∙ c.if-not-filled.false)
 
 pub node-n-requires : goal.node-n-requires
-node-n-requires t c = omega (arith, c.requires.1.2.room, c.loop-i-test.true)
+node-n-requires t c = omega (arith, c.requires.2.room, c.loop-i-test.true)
 
 pub is_live-requires : goal.is_live-requires
-is_live-requires t c = (c.requires.1.0, c.requires.1.1, c.loop-i.invariant.sound, c.loop-i-test.true)
+is_live-requires t c = (c.requires.0, c.requires.1, c.loop-i.invariant.sound, c.loop-i-test.true)
 
 pub want-inner-requires : goal.want-inner-requires
-want-inner-requires t c = (c.requires.1.0, c.requires.1.1, (walk_field _ _ _ _ _ _ _ c.loop-i.invariant c.loop-i-test.true _ c.node-n.ensures (sym c.nests.ensures ∙ c.if-nests.true)).0)
+want-inner-requires t c = (c.requires.0, c.requires.1, (walk_field _ _ _ _ _ _ _ c.loop-i.invariant c.loop-i-test.true _ c.node-n.ensures (sym c.nests.ensures ∙ c.if-nests.true)).0)
 
 pub overflow_add-i : goal.overflow_add-i
 overflow_add-i t c = omega (arith, c.loop-i-test.true, c.ranges)
@@ -34,22 +34,22 @@ pub is_complete-requires : goal.is_complete-requires
 is_complete-requires t c =
     let a = walk-on _ _ _ _ _ _ _ c.loop-i.invariant c.loop-i-test.true _ c.node-n.ensures in
     let b = walk-room _ _ _ _ _ _ _ c.loop-i.invariant c.loop-i-test.true _ c.node-n.ensures in (
-      omega (arith, c.requires.0, c.loop-i.invariant.on),
+      omega (arith, c.decreases, c.loop-i.invariant.on),
       (
-        c.requires.1.0,
-        rw c.want-inner.ensures (walk-there _ _ _ _ _ _ _ c.loop-i.invariant c.loop-i-test.true _ c.node-n.ensures (sym c.nests.ensures ∙ c.if-nests.true) c.requires.1.0.good c.requires.1.1),
+        c.requires.0,
+        rw c.want-inner.ensures (walk-there _ _ _ _ _ _ _ c.loop-i.invariant c.loop-i-test.true _ c.node-n.ensures (sym c.nests.ensures ∙ c.if-nests.true) c.requires.0.good c.requires.1),
         rw c.want-inner.ensures (walk-kids _ _ _ _ _ _ _ c.loop-i.invariant c.loop-i-test.true _ c.node-n.ensures),
       ),
     )
 
 pub returns-then-not-is_complete : goal.returns-then-not-is_complete
-returns-then-not-is_complete t c = walk-missing _ _ _ _ _ _ _ c.loop-i.invariant c.loop-i-test.true _ c.node-n.ensures (sym c.nests.ensures ∙ c.if-nests.true) (sym c.is_live.ensures ∙ c.if-is_live.true) (rw c.want-inner.ensures at (sym c.is_complete.ensures ∙ not-true _ c.if-not-is_complete.true))
+returns-then-not-is_complete t c = walk-missing _ _ _ _ _ _ _ c.loop-i.invariant c.loop-i-test.true _ c.node-n.ensures (sym c.nests.ensures ∙ c.if-nests.true) (sym c.is_live.ensures ∙ c.if-is_live.true) (rw c.want-inner.ensures at (sym c.is_complete.ensures ∙ c.if-not-is_complete.true))
 
 pub loop-i-smaller-else-not-is_complete : goal.loop-i-smaller-else-not-is_complete
 loop-i-smaller-else-not-is_complete t c = omega (arith, c.loop-i-test.true, walk-on _ _ _ _ _ _ _ c.loop-i.invariant c.loop-i-test.true _ c.node-n.ensures)
 
 pub loop-i-preserved-else-not-is_complete : goal.loop-i-preserved-else-not-is_complete
-loop-i-preserved-else-not-is_complete t c = walk-live _ _ _ _ _ _ _ c.loop-i.invariant c.loop-i-test.true _ c.node-n.ensures (sym c.nests.ensures ∙ c.if-nests.true) (sym c.is_live.ensures ∙ c.if-is_live.true) (rw c.want-inner.ensures at (sym c.is_complete.ensures ∙ not-false _ c.if-not-is_complete.false))
+loop-i-preserved-else-not-is_complete t c = walk-live _ _ _ _ _ _ _ c.loop-i.invariant c.loop-i-test.true _ c.node-n.ensures (sym c.nests.ensures ∙ c.if-nests.true) (sym c.is_live.ensures ∙ c.if-is_live.true) (rw c.want-inner.ensures at (sym c.is_complete.ensures ∙ c.if-not-is_complete.false))
 
 pub loop-i-smaller-else-is_live : goal.loop-i-smaller-else-is_live
 loop-i-smaller-else-is_live t c = omega (arith, c.loop-i-test.true, walk-on _ _ _ _ _ _ _ c.loop-i.invariant c.loop-i-test.true _ c.node-n.ensures)

@@ -38,7 +38,7 @@ pub has-requires : goal.has-requires
 has-requires c = (c.requires.2, c.requires.3)
 
 pub returns-then-not-has : goal.returns-then-not-has
-returns-then-not-has c = λ pool. filled-not _ _ _ c.if-w-eq-ENTRY.false _ c.message-run.ensures _ _ c.field-field.ensures c.loop-k-test.true c.if-field-eq-REQUIRED.true (sym (c.has.ensures pool) ∙ not-true _ c.if-not-has.true)
+returns-then-not-has c = λ pool. filled-not _ _ _ c.if-w-eq-ENTRY.false _ c.message-run.ensures _ _ c.field-field.ensures c.loop-k-test.true c.if-field-eq-REQUIRED.true (sym (c.has.ensures pool) ∙ c.if-not-has.true)
 
 pub loop-k-preserved : goal.loop-k-preserved
 loop-k-preserved c = (

@@ -9,22 +9,22 @@ use Rattle.survey.proofs.Lackings.{Walk, walk-own, walk_start, walk_end, walk-on
 use Rattle.survey.proofs.required.+lacking.Goals as goal
 
 pub lacking_in-own-requires : goal.lacking_in-own-requires
-lacking_in-own-requires t c = (c.requires.1.0, c.requires.1.1, c.requires.1.2.tiled, c.requires.1.2.room)
+lacking_in-own-requires t c = (c.requires.0, c.requires.1, c.requires.2.tiled, c.requires.2.room)
 
 pub returns-in-Field : goal.returns-in-Field
 returns-in-Field t c = walk-own _ _ _ _ _ _ _ (sym c.in-Field.is ∙ c.lacking_in-own.ensures _)
 
 pub loop-i-init : goal.loop-i-init
-loop-i-init t c = walk_start _ _ _ _ _ _ c.requires.1.2 (sym c.in_default.is ∙ c.lacking_in-own.ensures _)
+loop-i-init t c = walk_start _ _ _ _ _ _ c.requires.2 (sym c.in_default.is ∙ c.lacking_in-own.ensures _)
 
 pub node-n-requires : goal.node-n-requires
-node-n-requires t c = omega (arith, c.requires.1.2.room, c.loop-i-test.true)
+node-n-requires t c = omega (arith, c.requires.2.room, c.loop-i-test.true)
 
 pub is_live-requires : goal.is_live-requires
-is_live-requires t c = (c.requires.1.0, c.requires.1.1, c.loop-i.invariant.sound, c.loop-i-test.true)
+is_live-requires t c = (c.requires.0, c.requires.1, c.loop-i.invariant.sound, c.loop-i-test.true)
 
 pub want-inner-requires : goal.want-inner-requires
-want-inner-requires t c = (c.requires.1.0, c.requires.1.1, (walk_field _ _ _ _ _ _ _ c.loop-i.invariant c.loop-i-test.true _ c.node-n.ensures (sym c.nests.ensures ∙ c.if-nests.true)).0)
+want-inner-requires t c = (c.requires.0, c.requires.1, (walk_field _ _ _ _ _ _ _ c.loop-i.invariant c.loop-i-test.true _ c.node-n.ensures (sym c.nests.ensures ∙ c.if-nests.true)).0)
 
 pub overflow_add-i : goal.overflow_add-i
 overflow_add-i t c = omega (arith, c.loop-i-test.true, c.ranges)
@@ -33,10 +33,10 @@ pub lacking-below-requires : goal.lacking-below-requires
 lacking-below-requires t c =
     let a = walk-on _ _ _ _ _ _ _ c.loop-i.invariant c.loop-i-test.true _ c.node-n.ensures in
     let b = walk-room _ _ _ _ _ _ _ c.loop-i.invariant c.loop-i-test.true _ c.node-n.ensures in (
-      omega (arith, c.requires.0, c.loop-i.invariant.on),
+      omega (arith, c.decreases, c.loop-i.invariant.on),
       (
-        c.requires.1.0,
-        rw c.want-inner.ensures (walk-there _ _ _ _ _ _ _ c.loop-i.invariant c.loop-i-test.true _ c.node-n.ensures (sym c.nests.ensures ∙ c.if-nests.true) c.requires.1.0.good c.requires.1.1),
+        c.requires.0,
+        rw c.want-inner.ensures (walk-there _ _ _ _ _ _ _ c.loop-i.invariant c.loop-i-test.true _ c.node-n.ensures (sym c.nests.ensures ∙ c.if-nests.true) c.requires.0.good c.requires.1),
         rw c.want-inner.ensures (walk-kids _ _ _ _ _ _ _ c.loop-i.invariant c.loop-i-test.true _ c.node-n.ensures),
       ),
     )

@@ -13,16 +13,16 @@ abbrev count_at : ℕ → In 3 count-kinds.ps
 count_at t = and 3 count-kinds.ps (is 3 count-kinds.ps μ-count t) count.Pre
 
 pub loop-i-init : goal.loop-i-init
-loop-i-init t c = tally-start _ _ _ _ _ _ _ c.requires.1.2
+loop-i-init t c = tally-start _ _ _ _ _ _ _ c.requires.2
 
 pub node-n-requires : goal.node-n-requires
-node-n-requires t c = omega (arith, c.requires.1.2.room, c.loop-i-test.true)
+node-n-requires t c = omega (arith, c.requires.2.room, c.loop-i-test.true)
 
 pub is_live-requires : goal.is_live-requires
-is_live-requires t c = (c.requires.1.0, c.requires.1.1, c.loop-i.invariant.sound, c.loop-i-test.true)
+is_live-requires t c = (c.requires.0, c.requires.1, c.loop-i.invariant.sound, c.loop-i-test.true)
 
 pub want-inner-requires : goal.want-inner-requires
-want-inner-requires t c = (c.requires.1.0, c.requires.1.1, (tally-field _ _ _ _ _ _ _ _ _ c.loop-i.invariant c.loop-i-test.true _ c.node-n.ensures (sym c.nests.ensures ∙ c.if-nests.true)).0)
+want-inner-requires t c = (c.requires.0, c.requires.1, (tally-field _ _ _ _ _ _ _ _ _ c.loop-i.invariant c.loop-i-test.true _ c.node-n.ensures (sym c.nests.ensures ∙ c.if-nests.true)).0)
 
 pub overflow_add-i : goal.overflow_add-i
 overflow_add-i t c = omega (arith, c.loop-i-test.true, c.ranges)
@@ -31,10 +31,10 @@ pub count-sum-requires : goal.count-sum-requires
 count-sum-requires t c =
     let a = tally-on _ _ _ _ _ _ _ _ _ c.loop-i.invariant c.loop-i-test.true _ c.node-n.ensures in
     let b = tally-room _ _ _ _ _ _ _ _ _ c.loop-i.invariant c.loop-i-test.true _ c.node-n.ensures in (
-      omega (arith, c.requires.0, c.loop-i.invariant.small),
+      omega (arith, c.decreases, c.loop-i.invariant.small),
       (
-        c.requires.1.0,
-        rw c.want-inner.ensures (tally-there _ _ _ _ _ _ _ _ _ c.loop-i.invariant c.loop-i-test.true _ c.node-n.ensures (sym c.nests.ensures ∙ c.if-nests.true) c.requires.1.0.good c.requires.1.1),
+        c.requires.0,
+        rw c.want-inner.ensures (tally-there _ _ _ _ _ _ _ _ _ c.loop-i.invariant c.loop-i-test.true _ c.node-n.ensures (sym c.nests.ensures ∙ c.if-nests.true) c.requires.0.good c.requires.1),
         rw c.want-inner.ensures (tally-kids _ _ _ _ _ _ _ _ _ c.loop-i.invariant c.loop-i-test.true _ c.node-n.ensures),
       ),
     )

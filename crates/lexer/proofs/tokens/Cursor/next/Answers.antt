@@ -27,7 +27,7 @@ token_at-requires c =
 pub returns-then-not-separates : goal.returns-then-not-separates
 returns-then-not-separates c =
     c.token_at.ensures
-    ∙ scanned-on c.args.text.now _ (record { at = c.loop-i.i; line = c.loop-i.line }) (skip-stays _ _ c.loop-i-test.true c.class_of-class.ensures.0 (sym c.separates.ensures ∙ not-true _ c.if-not-separates.true) ∙ c.loop-i.invariant.0) c.loop-i.invariant.2
+    ∙ scanned-on c.args.text.now _ (record { at = c.loop-i.i; line = c.loop-i.line }) (skip-stays _ _ c.loop-i-test.true c.class_of-class.ensures.0 (sym c.separates.ensures ∙ c.if-not-separates.true) ∙ c.loop-i.invariant.0) c.loop-i.invariant.2
 
 pub overflow_add-number : goal.overflow_add-number
 overflow_add-number c = omega (arith, c.requires.1.short, (line_small c.args.text.now c.loop-i.i).0, ap (λ (l : Line). l.number) c.loop-i.invariant.2)
@@ -37,7 +37,7 @@ overflow_cast-began c = omega (arith, c.requires.1.short)
 
 pub loop-i-preserved-then-class-eq-NEWLINE : goal.loop-i-preserved-then-class-eq-NEWLINE
 loop-i-preserved-then-class-eq-NEWLINE c =
-    (skip-blank _ _ c.loop-i-test.true c.class_of-class.ensures.0 (sym c.separates.ensures ∙ not-false _ c.if-not-separates.false) (λ z. omega arith) ∙ c.loop-i.invariant.0, omega arith, rw c.loop-i.invariant.2 (sym (line-next c.args.text.now c.loop-i.i c.loop-i-test.true (newline-byte _ (sym c.class_of-class.ensures.0 ∙ c.if-class-eq-NEWLINE.true)))))
+    (skip-blank _ _ c.loop-i-test.true c.class_of-class.ensures.0 (sym c.separates.ensures ∙ c.if-not-separates.false) (λ z. omega arith) ∙ c.loop-i.invariant.0, omega arith, rw c.loop-i.invariant.2 (sym (line-next c.args.text.now c.loop-i.i c.loop-i-test.true (newline-byte _ (sym c.class_of-class.ensures.0 ∙ c.if-class-eq-NEWLINE.true)))))
 
 pub loop-i-smaller-else-class-eq-NEWLINE : goal.loop-i-smaller-else-class-eq-NEWLINE
 loop-i-smaller-else-class-eq-NEWLINE c = omega (arith, c.comment_end-i.ensures)
@@ -45,11 +45,11 @@ loop-i-smaller-else-class-eq-NEWLINE c = omega (arith, c.comment_end-i.ensures)
 pub loop-i-preserved-else-class-eq-NEWLINE : goal.loop-i-preserved-else-class-eq-NEWLINE
 loop-i-preserved-else-class-eq-NEWLINE c =
     let e : c.comment_end-i.result ≡ c.loop-i.i + 1 + comment (drop (c.loop-i.i + 1) c.args.text.now) = c.comment_end-i.ensures in
-    (ap (skip c.args.text.now) c.comment_end-i.ensures ∙ skip-comment _ _ c.loop-i-test.true c.class_of-class.ensures.0 (comment-left c.args.text.now c.loop-i.i c.loop-i-test.true c.class_of-class.ensures.0 (sym c.separates.ensures ∙ not-false _ c.if-not-separates.false) c.if-class-ne-SPACE.true c.if-class-eq-NEWLINE.false) ∙ c.loop-i.invariant.0, omega (arith, e, c.loop-i-test.true, comment-le (drop (c.loop-i.i + 1) c.args.text.now), length-drop (c.loop-i.i + 1) c.args.text.now), c.loop-i.invariant.2 ∙ sym (line_on c.args.text.now c.loop-i.i c.loop-i-test.true (other_byte _ c.class_of-class.ensures.0 c.if-class-eq-NEWLINE.false)) ∙ sym (rw e (line-comment c.args.text.now (c.loop-i.i + 1) (omega (arith, c.loop-i-test.true)))))
+    (ap (skip c.args.text.now) c.comment_end-i.ensures ∙ skip-comment _ _ c.loop-i-test.true c.class_of-class.ensures.0 (comment-left c.args.text.now c.loop-i.i c.loop-i-test.true c.class_of-class.ensures.0 (sym c.separates.ensures ∙ c.if-not-separates.false) c.if-class-ne-SPACE.true c.if-class-eq-NEWLINE.false) ∙ c.loop-i.invariant.0, omega (arith, e, c.loop-i-test.true, comment-le (drop (c.loop-i.i + 1) c.args.text.now), length-drop (c.loop-i.i + 1) c.args.text.now), c.loop-i.invariant.2 ∙ sym (line_on c.args.text.now c.loop-i.i c.loop-i-test.true (other_byte _ c.class_of-class.ensures.0 c.if-class-eq-NEWLINE.false)) ∙ sym (rw e (line-comment c.args.text.now (c.loop-i.i + 1) (omega (arith, c.loop-i-test.true)))))
 
 pub loop-i-preserved : goal.loop-i-preserved
 loop-i-preserved c =
-    (skip-blank _ _ c.loop-i-test.true c.class_of-class.ensures.0 (sym c.separates.ensures ∙ not-false _ c.if-not-separates.false) (λ z. omega arith) ∙ c.loop-i.invariant.0, omega arith, c.loop-i.invariant.2 ∙ sym (line_on c.args.text.now c.loop-i.i c.loop-i-test.true (other_byte _ c.class_of-class.ensures.0 (λ z. omega arith))))
+    (skip-blank _ _ c.loop-i-test.true c.class_of-class.ensures.0 (sym c.separates.ensures ∙ c.if-not-separates.false) (λ z. omega arith) ∙ c.loop-i.invariant.0, omega arith, c.loop-i.invariant.2 ∙ sym (line_on c.args.text.now c.loop-i.i c.loop-i-test.true (other_byte _ c.class_of-class.ensures.0 (λ z. omega arith))))
 
 pub place-requires : goal.place-requires
 place-requires c = placed-small c.args.text.now (record { at = c.loop-i.i; line = c.loop-i.line }) c.loop-i.invariant.1 c.requires.1.short c.loop-i.invariant.2
