@@ -1,6 +1,8 @@
 // Standard input, line by line.
+ghost use Rattle.std.specs.Prelude.{◌≤◌, length};
+
 use crate::line;
-use libc::STDIN_FILENO;
+use std::io::Read;
 
 // Where the input stands. Of its room the bytes from start to end are read and in no line yet, and the line's room holds length bytes of
 // the line of number count. `is_whole` where that line has ended, `is_long` where it went over its room, and bytes of it were dropped.
@@ -62,10 +64,19 @@ fn take(input: &[u8], line: &mut [u8], at: Lines) -> Lines {
     }
 }
 
+// Reads into the input's room, and answers how much. What can't be read has ended.
+fn read(rt: HostRuntime, input: &mut [u8]) -> usize
+    ensures { result ≤ length input.new }
+{
+    match rt.stdin().read(input) {
+        Ok(n) => n,
+        Err(_) => 0,
+    }
+}
+
 // Reads on, where no line ends in what was read before. The end of the input ends the last line.
-fn refill(input: &mut [u8], at: Lines) -> Lines {
-    let got = libc::read(STDIN_FILENO, input);
-    let end = io::count(got, input);
+fn refill(rt: HostRuntime, input: &mut [u8], at: Lines) -> Lines {
+    let end = read(rt, input);
     Lines {
         start: 0,
         end,
@@ -78,10 +89,10 @@ fn refill(input: &mut [u8], at: Lines) -> Lines {
 }
 
 // Goes on to the end of a line, or as far as is read, and then reads on.
-pub fn next(input: &mut [u8], line: &mut [u8], at: Lines) -> Lines {
+pub fn next(rt: HostRuntime, input: &mut [u8], line: &mut [u8], at: Lines) -> Lines {
     let taken = take(input, line, opened(at));
     if taken.is_whole {
         return taken;
     }
-    refill(input, taken)
+    refill(rt, input, taken)
 }

@@ -7,6 +7,7 @@ use mathlib.Core.Path.{sym, ◌∙◌}
 use borrow.Author.Rules.{rules}
 use Rattle.live.proofs.Lives.{Later, live-fits, live_all, later-start, later-end, later-on, later_last, later-entries, later-key, later-unlike, later-other}
 use Rattle.live.proofs.is_live.Goals as goal
+use Rattle.live.proofs.is_live.Goals.{then-rank-mine+else-how-eq0+else-same_key, else-rank-mine}
 
 pub node-n-requires : goal.node-n-requires
 node-n-requires c = omega (arith, c.requires.2.room, c.requires.3)
@@ -37,10 +38,10 @@ loop-j-smaller c = omega (arith, later-on _ _ _ _ _ _ c.requires.2 c.requires.3 
 
 pub loop-j-preserved : goal.loop-j-preserved
 loop-j-preserved c =
-    ⊎_elim
-    (λ q. later-unlike _ _ _ _ _ _ c.requires.2 c.requires.3 _ c.node-n.ensures _ c.sharing-how.ensures _ c.rank-mine.ensures _ c.loop-j.invariant c.loop-j-test.true _ c.node-m.ensures (sym c.rank.ensures ∙ q.0.taken) q.1.left c.if-how-eq2.false (sym q.2.ensures ∙ q.3.left))
-    (λ q. later-other _ _ _ _ _ _ c.requires.2 c.requires.3 _ c.node-n.ensures _ c.sharing-how.ensures _ c.rank-mine.ensures _ c.loop-j.invariant c.loop-j-test.true _ c.node-m.ensures (λ r. q.left (c.rank.ensures ∙ r)))
-    c.if-rank-mine.branch
+    elim c.if-rank-mine.branch [
+      | then-rank-mine+else-how-eq0+else-same_key w ↦ later-unlike _ _ _ _ _ _ c.requires.2 c.requires.3 _ c.node-n.ensures _ c.sharing-how.ensures _ c.rank-mine.ensures _ c.loop-j.invariant c.loop-j-test.true _ c.node-m.ensures (sym c.rank.ensures ∙ w.if-rank-mine.true) w.if-how-eq0.false c.if-how-eq2.false (sym w.same_key.ensures ∙ w.if-same_key.false)
+      | else-rank-mine w ↦ later-other _ _ _ _ _ _ c.requires.2 c.requires.3 _ c.node-n.ensures _ c.sharing-how.ensures _ c.rank-mine.ensures _ c.loop-j.invariant c.loop-j-test.true _ c.node-m.ensures (λ r. w.if-rank-mine.false (c.rank.ensures ∙ r))
+    ]
 
 pub returns : goal.returns
 returns c = later-end _ _ _ _ _ _ c.requires.2 c.requires.3 _ c.node-n.ensures _ c.sharing-how.ensures _ c.rank-mine.ensures _ c.loop-j.invariant c.loop-j-test.false

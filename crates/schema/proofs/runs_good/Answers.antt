@@ -13,13 +13,7 @@ use Rattle.definitions.specs.Image.{span_of}
 use Rattle.bits.proofs.BitLaws.{bits_below}
 use Rattle.laws.proofs.Tests.{begins, all_start, all_more, total-step, running-fails, running-done}
 use Rattle.schema.proofs.runs_good.Goals as goal
-use Rattle.schema.proofs.runs_good.Invariants.{at-index}
-
-record Passed (f : ℕ → Span) (count i total : ℕ) : Type 0 where
-  below : i ≤ count
-  small : total ≤ 4095 * i
-  sum : total ≡ spec.total f i
-  good : all i (begins f) ≡ true
+use Rattle.schema.proofs.runs_good.Invariants.{at-index, Passed}
 
 start : (f : ℕ → Span) (count : ℕ) → Passed f count 0 0
 unfolding spec.total

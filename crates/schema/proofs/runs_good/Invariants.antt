@@ -18,6 +18,12 @@ use Rattle.schema.proofs.runs_good.Given as goal
 abbrev pub at-index : List ℕ → ℕ → ℕ → Span
 at-index image at i = span_of (drop (at + 3 * i) image)
 
+pub record Passed (f : ℕ → Span) (count i total : ℕ) : Type 0 where
+  pub below : i ≤ count
+  pub small : total ≤ 4095 * i
+  pub sum : total ≡ spec.total f i
+  pub good : all i (begins f) ≡ true
+
 abbrev pub invariant-loop-i : goal.invariant-loop-i
 invariant-loop-i l = Passed (at-index l.image l.at) l.count l.i l.total
 

@@ -30,4 +30,4 @@ count-requires c = (
 )
 
 pub returns : goal.returns
-returns c = c.count.ensures.0 ∙ count-below _ _ _ _ _ (ap within c.root_want-w.ensures ∙ within-root _) (rw c.root_want-w.ensures refl) _ (root-end _ _ c.node-n.ensures) ∙ values-some _ _ _ _ (sym c.is_taken.ensures ∙ c.if-not-is_taken.false)
+returns c = c.count.ensures.amount ∙ count-below _ _ _ _ _ (ap within c.root_want-w.ensures ∙ within-root _) (rw c.root_want-w.ensures refl) _ (root-end _ _ c.node-n.ensures) ∙ values-some _ _ _ _ (sym c.is_taken.ensures ∙ c.if-not-is_taken.false)

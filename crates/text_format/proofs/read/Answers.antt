@@ -26,4 +26,4 @@ pub read_text-requires : goal.read_text-requires
 read_text-requires c = (record { right = c.layout_of-layout.ensures; good = sym (sym (c.if-not-check.false) ∙ c.check.ensures) }, rw c.message_count.ensures at c.if-message_count-root.false, c.if-text-gt-MOST_TEXT.false)
 
 pub returns : goal.returns
-returns c = ends_read c.args.image.now c.args.root c.args.text.now c.args.nodes.now c.args.pool.now (sym (c.if-not-check.false) ∙ c.check.ensures) (rw c.message_count.ensures at c.if-message_count-root.false) c.if-text-gt-MOST_TEXT.false _ _ _ c.read_text.ensures.0 c.read_text.ensures.1.0 c.read_text.ensures.1.1
+returns c = ends_read c.args.image.now c.args.root c.args.text.now c.args.nodes.now c.args.pool.now (sym (c.if-not-check.false) ∙ c.check.ensures) (rw c.message_count.ensures at c.if-message_count-root.false) c.if-text-gt-MOST_TEXT.false _ _ _ c.read_text.ensures.answer c.read_text.ensures.table.0 c.read_text.ensures.table.1

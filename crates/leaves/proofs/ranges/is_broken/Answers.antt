@@ -3,10 +3,10 @@ use borrow.Author.Tests.{eq-eqb, ne_eqb}
 use Rattle.leaves.proofs.ranges.is_broken.Goals as goal
 
 pub returns-then-kind-ne-STRING : goal.returns-then-kind-ne-STRING
-returns-then-kind-ne-STRING c = simp (ne_eqb _ _ c.if-kind-ne-STRING.taken)
+returns-then-kind-ne-STRING c = simp (ne_eqb _ _ c.if-kind-ne-STRING.true)
 
 pub returns-then-utf8 : goal.returns-then-utf8
-returns-then-utf8 c = simp (eq-eqb _ _ c.if-kind-ne-STRING.left, c.if-utf8.taken)
+returns-then-utf8 c = simp (eq-eqb _ _ c.if-kind-ne-STRING.false, c.if-utf8.true)
 
 pub returns : goal.returns
-returns c = simp (eq-eqb _ _ c.if-kind-ne-STRING.left, c.if-utf8.left)
+returns c = simp (eq-eqb _ _ c.if-kind-ne-STRING.false, c.if-utf8.false)

@@ -5,16 +5,16 @@ use Rattle.leaves.proofs.ranges.most_signed.Goals as goal
 
 pub returns-then-negative : goal.returns-then-negative
 unfolding most_signed
-returns-then-negative c = simp (eq-eqb _ _ c.if-kind-eq-I32.taken, c.if-negative.taken)
+returns-then-negative c = simp (eq-eqb _ _ c.if-kind-eq-I32.true, c.if-negative.true)
 
 pub returns-else-negative : goal.returns-else-negative
 unfolding most_signed
-returns-else-negative c = simp (eq-eqb _ _ c.if-kind-eq-I32.taken, c.if-negative.left)
+returns-else-negative c = simp (eq-eqb _ _ c.if-kind-eq-I32.true, c.if-negative.false)
 
 pub returns-then-negative-2 : goal.returns-then-negative-2
 unfolding most_signed
-returns-then-negative-2 c = simp (ne_eqb _ _ c.if-kind-eq-I32.left, c.if-negative-2.taken)
+returns-then-negative-2 c = simp (ne_eqb _ _ c.if-kind-eq-I32.false, c.if-negative-2.true)
 
 pub returns-else-negative-2 : goal.returns-else-negative-2
 unfolding most_signed
-returns-else-negative-2 c = simp (ne_eqb _ _ c.if-kind-eq-I32.left, c.if-negative-2.left)
+returns-else-negative-2 c = simp (ne_eqb _ _ c.if-kind-eq-I32.false, c.if-negative-2.false)

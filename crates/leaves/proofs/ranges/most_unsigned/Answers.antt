@@ -5,8 +5,8 @@ use Rattle.leaves.proofs.ranges.most_unsigned.Goals as goal
 
 pub returns-then-kind-eq-U32 : goal.returns-then-kind-eq-U32
 unfolding most_unsigned
-returns-then-kind-eq-U32 c = simp (eq-eqb _ _ c.if-kind-eq-U32.taken)
+returns-then-kind-eq-U32 c = simp (eq-eqb _ _ c.if-kind-eq-U32.true)
 
 pub returns-else-kind-eq-U32 : goal.returns-else-kind-eq-U32
 unfolding most_unsigned
-returns-else-kind-eq-U32 c = simp (ne_eqb _ _ c.if-kind-eq-U32.left)
+returns-else-kind-eq-U32 c = simp (ne_eqb _ _ c.if-kind-eq-U32.false)

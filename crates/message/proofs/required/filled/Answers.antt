@@ -14,6 +14,7 @@ use Rattle.nodes.proofs.Scopes.{there-message}
 use Rattle.live.proofs.Lives.{from_on}
 use Rattle.message.proofs.Requires.{given, all_more, filled-entry, filled-done, filled-not, given-other, given-has, run-field}
 use Rattle.message.proofs.required.filled.Goals as goal
+use Rattle.message.proofs.required.filled.Goals.{then-field-eq-REQUIRED+else-not-has, else-field-eq-REQUIRED}
 
 pub returns-then-w-eq-ENTRY : goal.returns-then-w-eq-ENTRY
 returns-then-w-eq-ENTRY c = λ pool. filled-entry _ _ _ c.if-w-eq-ENTRY.true
@@ -44,10 +45,10 @@ pub loop-k-preserved : goal.loop-k-preserved
 loop-k-preserved c = (
   omega (arith, c.loop-k-test.true),
   λ pool. all_more _ _ (c.loop-k.invariant.1 pool)
-      (⊎_elim
-      (λ q. given-has _ _ c.message-run.result _ _ c.field-field.ensures q.0.taken (sym (q.1.ensures pool) ∙ not-false _ q.2.left))
-      (λ q. given-other _ _ c.message-run.result _ _ c.field-field.ensures q.left)
-      c.if-field-eq-REQUIRED.branch),
+      (elim c.if-field-eq-REQUIRED.branch [
+        then-field-eq-REQUIRED+else-not-has w ↦ given-has _ _ c.message-run.result _ _ c.field-field.ensures w.if-field-eq-REQUIRED.true (sym (w.has.ensures pool) ∙ w.if-not-has.false)
+        | else-field-eq-REQUIRED w ↦ given-other _ _ c.message-run.result _ _ c.field-field.ensures w.if-field-eq-REQUIRED.false
+      ]),
 )
 
 pub returns : goal.returns

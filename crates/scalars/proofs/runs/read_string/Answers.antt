@@ -43,11 +43,11 @@ decode-requires c =
     (c.requires.0.1, omega (arith, p, z.quotes c.if-t-ne-STRING.false, z.within, c.requires.1.short, c.requires.2.byte))
 
 pub returns-in_default-decode : goal.returns-in_default-decode
-returns-in_default-decode c = no-answers _ _ _ _ _ _ _ _ _ (string-undecoded _ _ _ _ _ (scanned _ _ _ _ _ c.next_from-st.ensures c.in-Token.is) c.if-t-ne-STRING.false (undecoded-is _ (sym c.in_default-decode.is ∙ c.decode.ensures.0))) refl
+returns-in_default-decode c = no-answers _ _ _ _ _ _ _ _ _ (string-undecoded _ _ _ _ _ (scanned _ _ _ _ _ c.next_from-st.ensures c.in-Token.is) c.if-t-ne-STRING.false (undecoded-is _ (sym c.in_default-decode.is ∙ c.decode.ensures.answer))) refl
 
 pub returns-then-is_broken : goal.returns-then-is_broken
 returns-then-is_broken c =
-    let d = decoded-is _ _ _ (sym c.in-Bytes.is ∙ c.decode.ensures.0) in
+    let d = decoded-is _ _ _ (sym c.in-Bytes.is ∙ c.decode.ensures.answer) in
     no-answers _ _ _ _ _ _ _ _ _ (string-broken _ _ _ _ _ (scanned _ _ _ _ _ c.next_from-st.ensures c.in-Token.is) c.if-t-ne-STRING.false d.0 d.1 (broken-by _ (eqb c.args.w.kind string) _ _ (sym c.if-is_broken.true ∙ c.is_broken.ensures) d.3)) refl
 
 pub overflow_cast-w-2 : goal.overflow_cast-w-2
@@ -58,7 +58,7 @@ overflow_cast-p c = omega (arith, c.requires.2.byte)
 
 pub overflow_cast-count : goal.overflow_cast-count
 overflow_cast-count c =
-    let d = decoded-is _ _ _ (sym c.in-Bytes.is ∙ c.decode.ensures.0) in
+    let d = decoded-is _ _ _ (sym c.in-Bytes.is ∙ c.decode.ensures.answer) in
     let room = string-room _ _ _ _ d.0 c.requires.1 (scanned _ _ _ _ _ c.next_from-st.ensures c.in-Token.is) c.if-t-ne-STRING.false d.1 in
     omega (arith, room, d.2)
 
@@ -73,12 +73,12 @@ overflow_add-result c = omega (arith, c.requires.2.node)
 
 pub overflow_add-result-2 : goal.overflow_add-result-2
 overflow_add-result-2 c =
-    let d = decoded-is _ _ _ (sym c.in-Bytes.is ∙ c.decode.ensures.0) in
+    let d = decoded-is _ _ _ (sym c.in-Bytes.is ∙ c.decode.ensures.answer) in
     let room = string-room _ _ _ _ d.0 c.requires.1 (scanned _ _ _ _ _ c.next_from-st.ensures c.in-Token.is) c.if-t-ne-STRING.false d.1 in
     omega (arith, room, d.2)
 
 pub returns : goal.returns
 returns c =
-    let d = decoded-is _ _ _ (sym c.in-Bytes.is ∙ c.decode.ensures.0) in
+    let d = decoded-is _ _ _ (sym c.in-Bytes.is ∙ c.decode.ensures.answer) in
     answers_by _ _ _ _ _ _ _ _ (string-fine _ c.args.w c.args.q _ _ (scanned _ _ _ _ _ c.next_from-st.ensures c.in-Token.is) c.if-t-ne-STRING.false d.0 d.1 (broken-by _ (eqb c.args.w.kind string) _ _ (sym c.if-is_broken.false ∙ c.is_broken.ensures) d.3))
-    (run-answers _ _ _ _ c.args.w c.args.q _ _ d.0 _ d.2 c.put.ensures c.decode.ensures.1 (decoded_front-all _ _ d.1) (scanned-line _ _ _ _ _ c.next_from-st.ensures c.in-Token.is))
+    (run-answers _ _ _ _ c.args.w c.args.q _ _ d.0 _ d.2 c.put.ensures c.decode.ensures.stored (decoded_front-all _ _ d.1) (scanned-line _ _ _ _ _ c.next_from-st.ensures c.in-Token.is))

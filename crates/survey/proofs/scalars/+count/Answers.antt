@@ -9,9 +9,6 @@ use Rattle.definitions.specs.Scope.{within, map_entry}
 use Rattle.survey.proofs.Counts.{Tally, weight-le, tally-start, tally-end, tally-on, tally-kids, tally-room, tally-gone, tally-scalar, tally-field, tally-there, tally-inner}
 use Rattle.survey.proofs.scalars.+count.Goals as goal
 
-abbrev count_at : ℕ → In 3 count-kinds.ps
-count_at t = and 3 count-kinds.ps (is 3 count-kinds.ps μ-count t) count.Pre
-
 pub loop-i-init : goal.loop-i-init
 loop-i-init t c = tally-start _ _ _ _ _ _ _ c.requires.2
 
@@ -40,7 +37,7 @@ count-sum-requires t c =
     )
 
 pub overflow_add-sum : goal.overflow_add-sum
-overflow_add-sum t c = let b = tally-room _ _ _ _ _ _ _ _ _ c.loop-i.invariant c.loop-i-test.true _ c.node-n.ensures in omega (arith, c.count-sum.ensures.1, c.loop-i.invariant.small, c.ranges)
+overflow_add-sum t c = let b = tally-room _ _ _ _ _ _ _ _ _ c.loop-i.invariant c.loop-i-test.true _ c.node-n.ensures in omega (arith, c.count-sum.ensures.bound, c.loop-i.invariant.small, c.ranges)
 
 pub overflow_add-sum-else-nests : goal.overflow_add-sum-else-nests
 overflow_add-sum-else-nests t c = omega (arith, weight-le _ _ _ c.weight-sum.ensures, c.loop-i.invariant.small, c.loop-i-test.true, c.ranges)
@@ -49,7 +46,7 @@ pub loop-i-smaller-then-nests : goal.loop-i-smaller-then-nests
 loop-i-smaller-then-nests t c = omega (arith, c.loop-i-test.true, tally-on _ _ _ _ _ _ _ _ _ c.loop-i.invariant c.loop-i-test.true _ c.node-n.ensures)
 
 pub loop-i-preserved-then-nests : goal.loop-i-preserved-then-nests
-loop-i-preserved-then-nests t c = tally-inner _ _ _ _ _ _ _ _ _ c.loop-i.invariant c.loop-i-test.true _ c.node-n.ensures (sym c.nests.ensures ∙ c.if-nests.true) (sym c.is_live.ensures ∙ c.if-is_live.true) _ c.count-sum.ensures.1 (rw c.want-inner.ensures at c.count-sum.ensures.0)
+loop-i-preserved-then-nests t c = tally-inner _ _ _ _ _ _ _ _ _ c.loop-i.invariant c.loop-i-test.true _ c.node-n.ensures (sym c.nests.ensures ∙ c.if-nests.true) (sym c.is_live.ensures ∙ c.if-is_live.true) _ c.count-sum.ensures.bound (rw c.want-inner.ensures at c.count-sum.ensures.amount)
 
 pub loop-i-smaller-else-nests : goal.loop-i-smaller-else-nests
 loop-i-smaller-else-nests t c = omega (arith, c.loop-i-test.true, tally-on _ _ _ _ _ _ _ _ _ c.loop-i.invariant c.loop-i-test.true _ c.node-n.ensures)
@@ -64,4 +61,4 @@ pub loop-i-preserved : goal.loop-i-preserved
 loop-i-preserved t c = tally-gone _ _ _ _ _ _ _ _ _ c.loop-i.invariant c.loop-i-test.true _ c.node-n.ensures (sym c.is_live.ensures ∙ c.if-is_live.false)
 
 pub returns : goal.returns
-returns t c = (tally-end _ _ _ _ _ _ _ _ _ c.loop-i.invariant c.loop-i-test.false, omega (arith, c.loop-i.invariant.small, c.loop-i.invariant.inside))
+returns t c = record { amount = tally-end _ _ _ _ _ _ _ _ _ c.loop-i.invariant c.loop-i-test.false; bound = omega (arith, c.loop-i.invariant.small, c.loop-i.invariant.inside) }
