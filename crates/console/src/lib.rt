@@ -11,7 +11,7 @@ use report::rooms::{Image, Pool, Shown, Text, Words};
 use report::verdict::Told;
 use report::{call, help, verdict};
 use streams::out;
-use streams::out::Out;
+use streams::out::{Out, Stream};
 // What a call tells.
 fn told(
     buf: &mut Out,
@@ -59,10 +59,10 @@ pub fn run(
     let told = told(
         buf, call, image, older, text, words, pool, more, extra, shown, is_script,
     );
-    let mut to = libc::STDOUT_FILENO;
+    let mut to = Stream::Output;
     if told.verdict == verdict::WRONG {
         if !is_script {
-            to = libc::STDERR_FILENO;
+            to = Stream::Errors;
         }
     }
     if out::flush_to(to, buf, told.at) {

@@ -3,8 +3,8 @@
 
 mod rooms;
 
-fn main() {
-    let mut out = rooms::out();
+fn main(rt: HostRuntime) {
+    let mut out = streams::out::begun(rt);
     let mut input = rooms::input();
     let mut line = rooms::line();
     let mut image = rooms::image();

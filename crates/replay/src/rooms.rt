@@ -3,11 +3,6 @@ use session::rooms::{
     IMAGE_LENGTH, INPUT_LENGTH, Image, Input, LINE_LENGTH, Line, POOL_LENGTH, Pool, TABLE_LENGTH,
     Table, WORDS_LENGTH, Words,
 };
-use streams::out::{OUT_LENGTH, Out};
-
-pub fn out() -> Out {
-    [0; OUT_LENGTH]
-}
 
 pub fn input() -> Input {
     [0; INPUT_LENGTH]

@@ -3,15 +3,30 @@ use crate::call::Asked;
 use crate::verdict::Told;
 use crate::{call, say, verdict};
 use records::same;
+use std::io::Read;
+use std::{fs, io};
 use streams::line;
 use streams::out::Out;
 
-// How many bytes were read, or why none can be.
+// How many bytes were read, or which of the reasons below it is that none can be.
 #[derive(Clone, Copy)]
 enum Got {
     Bytes(usize),
-    Failed(i32),
+    Failed(usize),
 }
+
+// Why a file can't be read: the system's numbers that have a sentence of their own, each with the sentence's place among them.
+const NO_FILE: i32 = 2;
+
+const NO_LEAVE: i32 = 13;
+
+const NO_INPUT: i32 = 9;
+
+const FOLDER: i32 = 21;
+
+const NOT_HERE: usize = 3;
+
+const OTHER: usize = 4;
 
 // What is there, or how much of the buffer says that nothing can be read.
 #[derive(Clone, Copy)]
@@ -20,23 +35,32 @@ pub enum Loaded {
     Not(usize),
 }
 
-// One read into the room from n on. How many bytes there are then, the same at the end of the file.
-fn read_on(fd: i32, room: &mut [u8], n: usize) -> Got {
-    let from = line::least(n, room.len());
-    let got = libc::read(fd, &mut room[from..]);
-    if got < 0 {
-        return Got::Failed(os::errno());
+// Which of the reasons below it is.
+fn reason(error: io::Error) -> usize {
+    match error.raw_os_error() {
+        Some(NO_FILE) => 0,
+        Some(FOLDER) => 1,
+        Some(NO_LEAVE) => 2,
+        Some(NO_INPUT) => NOT_HERE,
+        _ => OTHER,
     }
-    let count = io::count(got, room);
-    Got::Bytes(from + line::least(count, room.len() - from))
+}
+
+// One read into the room from n on. How many bytes there are then, the same at the end of the file.
+fn read_on<R: Read>(from: &mut R, room: &mut [u8], n: usize) -> Got {
+    let start = line::least(n, room.len());
+    match from.read(&mut room[start..]) {
+        Ok(count) => Got::Bytes(start + line::least(count, room.len() - start)),
+        Err(error) => Got::Failed(reason(error)),
+    }
 }
 
 // Nothing says that a file ends, so the turns are counted down: each reads a byte or is the last.
-fn fill(fd: i32, room: &mut [u8]) -> Got {
+fn fill<R: Read>(from: &mut R, room: &mut [u8]) -> Got {
     let mut n = 0;
     let mut turns = room.len();
     while turns > 0 {
-        let got = read_on(fd, room, n);
+        let got = read_on(from, room, n);
         let Got::Bytes(next) = got else {
             return got;
         };
@@ -49,43 +73,38 @@ fn fill(fd: i32, room: &mut [u8]) -> Got {
     Got::Bytes(n)
 }
 
-// The file at a path; `-` is standard input, but for a script, whose calls stand there.
-fn read(path: &[u8], room: &mut [u8], is_script: bool) -> Got {
-    if same(path, b"-") {
-        if is_script {
-            return Got::Failed(libc::EBADF);
-        }
-        return fill(libc::STDIN_FILENO, room);
+// The file at a path of text.
+fn open(rt: HostRuntime, path: &str, room: &mut [u8]) -> Got {
+    match fs::open(&rt, path) {
+        Ok(mut file) => fill(&mut file, room),
+        Err(error) => Got::Failed(reason(error)),
     }
-    let fd = os::open_read(path);
-    if fd < 0 {
-        return Got::Failed(os::errno());
-    }
-    let got = fill(fd, room);
-    libc::close(fd);
-    got
 }
 
-// Which of the reasons below it is.
-fn reason(error: i32) -> usize {
-    match error {
-        libc::ENOENT => 0,
-        libc::EISDIR => 1,
-        libc::EACCES => 2,
-        libc::EBADF => 3,
-        _ => 4,
+// The file at a path; `-` is standard input, but for a script, whose calls stand there.
+fn read(rt: HostRuntime, path: &[u8], room: &mut [u8], is_script: bool) -> Got {
+    if same(path, b"-") {
+        if is_script {
+            return Got::Failed(NOT_HERE);
+        }
+        let mut input = rt.stdin();
+        return fill(&mut input, room);
+    }
+    match str::from_utf8(path) {
+        Ok(text) => open(rt, text, room),
+        Err(_) => Got::Failed(OTHER),
     }
 }
 
 // The call's file of number k, or `PATH: no such file`.
 pub fn load(buf: &mut Out, call: &[u8], asked: Asked, k: usize, room: &mut [u8]) -> Loaded {
     let path = call::file(call, k);
-    match read(path, room, asked.is_script) {
+    match read(buf.rt, path, room, asked.is_script) {
         Got::Bytes(n) => Loaded::Bytes(n),
-        Got::Failed(error) => {
+        Got::Failed(reason) => {
             let why = line::nth(
                 b"no such file\0a directory, not a file\0it may not be read\0standard input can't be read here\0it can't be read\0",
-                reason(error),
+                reason,
             );
             Loaded::Not(say::say(buf, 0, b"@: $\n", path, why, 0, 0))
         }

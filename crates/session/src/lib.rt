@@ -37,7 +37,7 @@ pub fn answer_all(
     let mut state = state::empty();
     let mut turns = u64::MAX;
     while turns > 0 && !lines.is_over {
-        lines = lines::next(input, line, lines);
+        lines = lines::next(buf.rt, input, line, lines);
         let answer = request::request(
             buf, line, image, older, table, pool, words, bytes, lines, state,
         );

@@ -6,6 +6,7 @@ use crate::line;
 pub const OUT_LENGTH: usize = 16384;
 
 // The buffer, and the runtime by which it is written.
+#[derive(Drop)]
 pub struct Out {
     pub rt: HostRuntime,
     room: [u8; OUT_LENGTH],

@@ -1,23 +1,23 @@
 // Calls: the program's arguments are one, or, for `script`, each line of standard input.
-use crate::rooms::Call;
+use crate::rooms::{Call, Input};
 use records::same;
 use report::rooms::{Image, Pool, Shown, Text, Words};
+use std::env::{Env, FillError};
+use std::fs::OpenOptions;
+use std::io;
+use std::io::Write;
 use streams::lines::Lines;
 use streams::out::Out;
 use streams::{line, lines, out};
 
-// The descriptor that the verdict is written to, since a program has no exit status.
-const VERDICT: i32 = 3;
+// The descriptor that the verdict is written to, beside standard output and error: 3.
+const VERDICT: &str = "/dev/fd/3";
 
 const WRONG: u8 = 2;
 
-// Puts argument i at `at`, ended by a zero byte, and answers where the next one goes; past the room where it doesn't fit.
-fn argument(call: &mut [u8], at: usize, i: usize) -> usize {
+// Ends an argument of n bytes, put at `at`, by a zero byte, and answers where the next one goes; past the room where it doesn't fit.
+fn ended(call: &mut [u8], at: usize, n: usize) -> usize {
     let from = line::least(at, call.len());
-    let n = os::arg(i, &mut call[from..]);
-    if os::errno() != 0 {
-        return usize::MAX;
-    }
     let end = line::least(n, call.len() - from) + from;
     if end < call.len() {
         call[end] = 0;
@@ -26,17 +26,24 @@ fn argument(call: &mut [u8], at: usize, i: usize) -> usize {
     usize::MAX
 }
 
+// Puts argument i at `at`.
+fn argument(rt: HostRuntime, call: &mut [u8], at: usize, i: usize) -> Result<usize, FillError> {
+    let from = line::least(at, call.len());
+    rt.arg(i, &mut call[from..])
+}
+
 // All arguments but the program's name. How much of the room they take, or more than it has.
-fn arguments(call: &mut [u8]) -> usize {
-    let count = os::arg_count();
+fn arguments(rt: HostRuntime, call: &mut [u8]) -> usize {
     let mut at = 0;
-    let mut i = 1;
-    while i < count {
+    for i in 1..usize::MAX {
         if at > call.len() {
             return at;
         }
-        at = argument(call, at, i);
-        i += 1;
+        match argument(rt, call, at, i) {
+            Ok(n) => at = ended(call, at, n),
+            Err(FillError::NotPresent) => return at,
+            Err(FillError::TooLong) => return usize::MAX,
+        }
     }
     at
 }
@@ -81,15 +88,23 @@ fn worse(a: u8, b: u8) -> u8 {
     if a < b { b } else { a }
 }
 
+// Writes to the verdict's descriptor; where there is none, nothing.
+fn put(rt: HostRuntime, bytes: &[u8]) -> io::Result<()> {
+    let mut to = OpenOptions::new().write(true).open(&rt, VERDICT)?;
+    to.write_all(bytes)
+}
+
 // Writes the verdict's digit.
-pub fn tell(verdict: u8) {
+pub fn tell(rt: HostRuntime, verdict: u8) {
     let digit = if verdict > WRONG {
         b'2'
     } else {
         b'0' + verdict
     };
-    let bytes = [digit];
-    io::write_all(VERDICT, &bytes);
+    match put(rt, &[digit]) {
+        Ok(()) => (),
+        Err(_) => (),
+    }
 }
 
 // One line of a script; an empty one and one that begins with `#` are passed over.
@@ -132,7 +147,7 @@ fn answered(
 // down from a number that no run uses up.
 fn script(
     buf: &mut Out,
-    input: &mut Out,
+    input: &mut Input,
     call: &mut Call,
     image: &mut Image,
     older: &mut Image,
@@ -147,7 +162,7 @@ fn script(
     let mut worst = 0;
     let mut turns = u64::MAX;
     while turns > 0 && !at.is_over {
-        at = lines::next(input, call, at);
+        at = lines::next(buf.rt, input, call, at);
         let verdict = answered(
             buf, call, image, older, text, words, pool, more, extra, shown, at,
         );
@@ -160,7 +175,7 @@ fn script(
 // The call that the arguments are, or a script's. Arguments that go over their room are no call.
 pub fn all(
     buf: &mut Out,
-    input: &mut Out,
+    input: &mut Input,
     call: &mut Call,
     image: &mut Image,
     older: &mut Image,
@@ -171,7 +186,7 @@ pub fn all(
     extra: &mut Pool,
     shown: &mut Shown,
 ) -> u8 {
-    let got = arguments(call);
+    let got = arguments(buf.rt, call);
     let n = if got > call.len() { 0 } else { got };
     if same(line::front(call, n), b"script\0") {
         return script(

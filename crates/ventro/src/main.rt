@@ -4,9 +4,9 @@
 mod calls;
 mod rooms;
 
-fn main() {
-    let mut out = rooms::out();
-    let mut input = rooms::out();
+fn main(rt: HostRuntime) {
+    let mut out = streams::out::begun(rt);
+    let mut input = rooms::input();
     let mut call = rooms::call();
     let mut image = rooms::image();
     let mut older = rooms::image();
@@ -20,5 +20,5 @@ fn main() {
         &mut out, &mut input, &mut call, &mut image, &mut older, &mut text, &mut words, &mut pool,
         &mut more, &mut extra, &mut shown,
     );
-    calls::tell(verdict);
+    calls::tell(rt, verdict);
 }

@@ -3,15 +3,19 @@ use report::rooms::{
     IMAGE_LENGTH, Image, POOL_LENGTH, Pool, SHOWN_LENGTH, Shown, TEXT_LENGTH, Text, WORDS_LENGTH,
     Words,
 };
-use streams::out::{OUT_LENGTH, Out};
 
 // The words of a call, and a script's line.
 pub const CALL_LENGTH: usize = 65536;
 
 pub type Call = [u8; CALL_LENGTH];
 
-pub fn out() -> Out {
-    [0; OUT_LENGTH]
+// What is read of standard input at a time.
+pub const INPUT_LENGTH: usize = 16384;
+
+pub type Input = [u8; INPUT_LENGTH];
+
+pub fn input() -> Input {
+    [0; INPUT_LENGTH]
 }
 
 pub fn call() -> Call {

@@ -124,7 +124,7 @@ read_message-loop-t-smaller t c =
     omega (arith, lt, i)
 
 pub read_message-loop-t-preserved : goal.read_message-loop-t-preserved
-read_message-loop-t-preserved t c = goes_on _ _ _ c.args.w _ _ _ _ _ _ _ c.loop-t.invariant _ _ (scanned _ _ _ _ _ c.next_from-st.ensures c.in-Token.is) c.if-t-closer.false c.if-t-ne-NAME.false _ (found-is _ _ (sym c.in-At.is ∙ c.find_in.ensures)) (sym c.if-is_again.false ∙ c.is_again.ensures ∙ again-at _ _ _ _ _ _) _ _ _ c.merge_field-r.ensures _ c.in-Done.is c.merge_field-r.auto.nodes c.merge_field-r.auto.pool _ (stands _ _ _ _ _ _ (c.has_key.ensures _ _ _) (c.has_value-value.ensures _ _ _))
+read_message-loop-t-preserved t c = goes_on _ _ _ c.args.w _ _ _ _ _ _ _ c.loop-t.invariant _ _ (scanned _ _ _ _ _ c.next_from-st.ensures c.in-Token.is) c.if-t-closer.false c.if-t-ne-NAME.false _ (found-is _ _ (sym c.in-At.is ∙ c.find_in.ensures)) (sym c.if-is_again.false ∙ c.is_again.ensures ∙ again-at _ _ _ _ _ _) _ _ _ c.merge_field-r.ensures _ c.in-Done.is c.merge_field-r.auto.nodes c.merge_field-r.auto.pool _ (stands _ _ _ _ _ _ (c.has_key-key.ensures _ _ _) (c.has_value-value.ensures _ _ _))
 
 pub read_value_of_type-read_colon-requires : goal.read_value_of_type-read_colon-requires
 read_value_of_type-read_colon-requires t c = (c.requires.0, c.requires.1, c.requires.2, c.requires.3, c.requires.4)

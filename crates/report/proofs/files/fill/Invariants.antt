@@ -3,7 +3,7 @@ use Rattle.std.proofs.Common.{◌≡◌, length, rules}
 use Rattle.report.proofs.files.fill.Given as goal
 
 abbrev pub invariant-loop-turns : goal.invariant-loop-turns
-invariant-loop-turns l = length l.room ≡ length l.initial.room
+invariant-loop-turns g l = length l.room ≡ length l.initial.room
 
 abbrev pub decreases-loop-turns : goal.decreases-loop-turns
-decreases-loop-turns l = l.turns
+decreases-loop-turns g l = l.turns
