@@ -5,7 +5,7 @@ use borrow.Author.Rules.{rules}
 use Rattle.carry.proofs.print_as.Goals as goal
 
 pub returns-then-pretty : goal.returns-then-pretty
-returns-then-pretty c = styled true _ c.if-pretty.true _ _ _ _ _ _ _ c.print_pretty.ensures
+returns-then-pretty c = let w = styled true _ c.if-pretty.true _ _ _ _ _ _ _ (c.print_pretty.ensures.answer, c.print_pretty.ensures.bytes) in record { answer = w.0; bytes = w.1 }
 
 pub returns : goal.returns
-returns c = styled false _ c.if-pretty.false _ _ _ _ _ _ _ c.print.ensures
+returns c = let w = styled false _ c.if-pretty.false _ _ _ _ _ _ _ (c.print.ensures.answer, c.print.ensures.bytes) in record { answer = w.0; bytes = w.1 }
