@@ -1,14 +1,12 @@
 -- A message or an entry behind its opener: its children's words, and then its own.
 use mathlib.Core.Path.{◌≡◌, sym, ◌∙◌, refl, ap}
-use Prim.Native.Nat.{ℕ, zero, suc, ◌≤◌, ◌<◌, ◌-◌, ◌+◌, ◌*◌, ◌/◌}
+use Prim.Native.Nat.{ℕ, zero, suc, ◌≤◌, ◌<◌, ◌-◌, ◌+◌}
 use mathlib.Core.Bool.{Bool, true, false, ◌&&◌, ◌||◌}
-use mathlib.Core.List.{List, [], ◌∷◌, ◌++◌}
+use mathlib.Core.List.{List, ◌++◌}
 use native.Mathlib.Omega.{arith}
 use lib.Dec.{eqb}
 use lib.ListN.{length}
-use lib.Seq.{sets}
-use borrow.Author.Tests.{eq-eqb, ne_eqb, eqb-true}
-use Rattle.definitions.specs.declared.Node.{Node}
+use borrow.Author.Tests.{eq-eqb, ne_eqb}
 use Rattle.definitions.specs.declared.Place.{Place}
 use Rattle.definitions.specs.declared.Spot.{Spot}
 use Rattle.definitions.specs.declared.Token.{Token}
@@ -17,16 +15,16 @@ use Rattle.definitions.specs.Basics.{if◌then◌else◌}
 use Rattle.definitions.specs.Refusals.{bad_token, other_expected, too_deep, most_text}
 use Rattle.definitions.specs.Scope.{Scope, in_message, in_entry, within, nests, body, map_entry}
 use Rattle.definitions.specs.Nodes.{words}
-use Rattle.definitions.specs.Tokens.{Scan, token, bad, scan, end_of_text, open_brace}
-use Rattle.definitions.specs.Loop.{Out, done, refused, Stand}
-use Rattle.definitions.specs.Reading.{moved, nested, opens, closer_of, opened, after_name, field, closed, fields, under, read_body}
+use Rattle.definitions.specs.Tokens.{token, bad, scan, end_of_text, open_brace}
+use Rattle.definitions.specs.Loop.{done, refused}
+use Rattle.definitions.specs.Reading.{moved, nested, opens, closer_of, opened, after_name, field, closed, under, read_body}
 use Rattle.laws.proofs.Reach.{reach}
 use Rattle.laws.proofs.Goes.{Went, any, read_body-goes}
 use Rattle.lexer.specs.declared.tokens.Line.{Line}
 use Rattle.lexer.specs.Steps.{line_at}
 use Rattle.leaves.specs.declared.Answer.{Answer}
 use Rattle.leaves.specs.declared.Answer.TheVariants as answer
-use Rattle.leaves.specs.Answers.{answer_of, put_at, Fair, Wrote, Answers, closer_for, standing}
+use Rattle.leaves.specs.Answers.{put_at, Fair, Answers, closer_for, standing}
 use Rattle.leaves.proofs.Stores.{parent-put}
 use Rattle.leaves.proofs.Returns.{no-answers, done-answers, answer-done, answer-line, answer-no, wrote-done}
 

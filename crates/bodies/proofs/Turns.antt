@@ -1,32 +1,32 @@
 -- The fields of a body, turn by turn: what is read and stored so far, and what one turn more gives.
 use mathlib.Core.Path.{◌≡◌, sym, ◌∙◌, refl, ap}
-use Prim.Native.Nat.{ℕ, zero, suc, ◌≤◌, ◌<◌, ◌-◌, ◌+◌, ◌*◌}
-use mathlib.Core.Bool.{Bool, true, false, ◌||◌}
-use mathlib.Core.List.{List, [], ◌∷◌, ◌++◌}
-use mathlib.Core.Option.{Option, none, some}
+use Prim.Native.Nat.{ℕ, ◌≤◌, ◌<◌, ◌*◌}
+use mathlib.Core.Bool.{Bool, true, false}
+use mathlib.Core.List.{List, [], ◌++◌}
+use mathlib.Core.Option.{none, some}
 use native.Mathlib.Omega.{arith}
 use lib.Dec.{eqb}
-use lib.ListN.{length, length-append}
+use lib.ListN.{length}
 use lib.Seq.{sets}
 use borrow.Author.Tests.{eq-eqb, ne_eqb}
 use Rattle.definitions.specs.declared.Place.{Place}
 use Rattle.definitions.specs.declared.Spot.{Spot}
 use Rattle.definitions.specs.declared.Token.{Token}
 use Rattle.definitions.specs.declared.Want.{Want}
-use Rattle.definitions.specs.Basics.{if◌then◌else◌, part}
-use Rattle.definitions.specs.Refusals.{bad_token, other_expected, unknown_field, twice, most_text}
-use Rattle.definitions.specs.Scope.{Scope, in_message, in_entry, want, within, find_in, map_entry}
-use Rattle.definitions.specs.Tokens.{Scan, token, bad, scan, end_of_text, name_token}
-use Rattle.definitions.specs.Loop.{Out, done, refused, Stand, Turn, stop, more, ahead, onward, loop}
+use Rattle.definitions.specs.Basics.{part}
+use Rattle.definitions.specs.Refusals.{bad_token, other_expected, unknown_field, twice}
+use Rattle.definitions.specs.Scope.{Scope, in_message, in_entry, want, within, find_in}
+use Rattle.definitions.specs.Tokens.{token, bad, scan, name_token}
+use Rattle.definitions.specs.Loop.{Out, done, refused, Stand, ahead, onward, loop}
 use Rattle.definitions.specs.Reading.{moved, field, closed, again, noted, turn_of, item, start, fields, under, read_body}
 use Rattle.laws.proofs.Reach.{reach}
-use Rattle.laws.proofs.Goes.{Went, Goes, Closing, any, under_goes, field-goes, item-goes, rest_goes, rest-is}
+use Rattle.laws.proofs.Goes.{Went, any, under_goes, field-goes, rest_goes, rest-is}
 use Rattle.lexer.specs.declared.tokens.Line.{Line}
 use Rattle.lexer.specs.Steps.{line_at}
 use Rattle.leaves.specs.declared.Answer.{Answer}
 use Rattle.leaves.specs.declared.Answer.TheVariants as answer
-use Rattle.leaves.specs.Answers.{answer_of, Fair, Wrote, Answers, AnswersHere, standing, KeyNoted, ValueNoted}
-use Rattle.leaves.proofs.Returns.{no-answers, answers_by, answers-from, answer-done, answer-line, answer-no, wrote-done}
+use Rattle.leaves.specs.Answers.{Fair, Answers, standing}
+use Rattle.leaves.proofs.Returns.{no-answers, answers_by, answer-done, answer-line, answer-no, wrote-done}
 use Rattle.entries.proofs.Joins.{Laid, ahead_none, ahead-ahead, laid_both, then-stored, join}
 
 noted-spot : (c : Scope) (i : ℕ) (h : Stand) (p : Spot) → (noted c i h p).spot ≡ p

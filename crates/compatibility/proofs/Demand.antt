@@ -13,7 +13,7 @@ use Rattle.definitions.specs.Image.{is_message, message_count}
 use Rattle.definitions.specs.Scope.{in_message}
 use Rattle.definitions.specs.Nodes.{node_at, table_end, forest, grow}
 use Rattle.definitions.specs.Validity.{below, valid}
-use Rattle.definitions.specs.Live.{Tree, node, tree_of, canon, meaning}
+use Rattle.definitions.specs.Live.{Tree, tree_of, canon, meaning}
 use Rattle.definitions.specs.Names.{names}
 use Rattle.definitions.specs.Places.{place_of}
 use Rattle.definitions.specs.Loop.{done}

@@ -3,7 +3,7 @@
 use Prim.Native.Nat.{ℕ, suc, ◌+◌, ◌%◌, ◌≤◌, ◌<◌}
 use native.Mathlib.Omega.{arith}
 use mathlib.Core.Path.{◌≡◌, refl, sym, ap, ◌∙◌}
-use mathlib.Core.Bool.{Bool, true, false, ◌&&◌, ◌||◌, not}
+use mathlib.Core.Bool.{Bool, true, false, ◌&&◌, not}
 use mathlib.Core.List.{List, [], ◌∷◌, ◌++◌, append-nil}
 use mathlib.Core.Option.{Option, none, some}
 use mathlib.Core.Logic.{◌⊎◌, inl, inr}
@@ -19,7 +19,7 @@ use Rattle.definitions.specs.Scope.{nests, i32, i64, u32, u64, bool, string, byt
 use Rattle.definitions.specs.Nodes.{words, widen, word32, word64}
 use Rattle.definitions.specs.Utf8.{utf8}
 use Rattle.definitions.specs.Integers.{runs_on, most_unsigned}
-use Rattle.definitions.specs.Live.{Val, number, run, inside, Tree, nil, node}
+use Rattle.definitions.specs.Live.{Val, number, run, inside, Tree, nil}
 use Rattle.definitions.specs.Names.{value_named, value_names, knows}
 use Rattle.definitions.specs.Places.{place_of}
 use Rattle.definitions.specs.Loop.{Out, done, refused, ahead}

@@ -28,7 +28,7 @@ use Rattle.trees.proofs.Extends.{Extends, extends-self}
 use Rattle.trees.proofs.Trees.{Sound, sound_i32, sound_i64, sound_u32, sound_u64, sound_bool, sound_enum, sound_string, sound_bytes, sound_body, sound_entry, Fits, Together, has_in, known}
 use Rattle.compatibility.proofs.Fields.{value_names-enum, value_names-other}
 use Rattle.compatibility.proofs.Fitting.{kids-case}
-use Rattle.compatibility.proofs.Demand.{t, fits, ok_n, ext, here, reads, meaning-read}
+use Rattle.compatibility.proofs.Demand.{fits, ok_n, ext, here, reads, meaning-read}
 
 -- ---- to mean the same is an equivalence
 

@@ -3,7 +3,6 @@ use Prim.Native.Nat.{ℕ, ◌+◌, ◌*◌, ◌/◌, ◌%◌}
 use mathlib.Core.Bool.{Bool}
 use mathlib.Core.List.{List, [], ◌∷◌, ◌++◌}
 use mathlib.Core.Option.{Option, none, some}
-use lib.ListN.{length}
 use Rattle.definitions.specs.Basics.{bytes}
 use Rattle.definitions.specs.Refusals.{Answer, given, denied}
 use Rattle.definitions.specs.Image.{accepted}
@@ -12,7 +11,7 @@ use Rattle.definitions.specs.Scope.{in_message}
 use Rattle.definitions.specs.Tokens.{end_of_text}
 use Rattle.definitions.specs.Loop.{Out, done, refused}
 use Rattle.definitions.specs.Reading.{Made, whole, fitted, words_of, bytes_of, read_body, read_answer}
-use Rattle.definitions.specs.Print.{Style, compact, pretty, print_text}
+use Rattle.definitions.specs.Print.{compact, pretty, print_text}
 
 -- schema E of document 01, with the type of `id`, which is 1 (i32) there
 abbrev pub schema_e : ℕ → List ℕ

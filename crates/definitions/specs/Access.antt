@@ -1,5 +1,5 @@
 -- Access to a string or bytes value (H, "Refusal numbers" 18): one call gives the number, another lends the value's bytes.
-use Rattle.std.specs.Prelude.{ℕ, Bool, true, false, ◌&&◌, List, [], ltb}
+use Rattle.std.specs.Prelude.{ℕ, Bool, ◌&&◌, List, [], ltb}
 use Rattle.definitions.specs.Basics.{if◌then◌else◌}
 use Rattle.definitions.specs.Refusals.{Answer, given, denied, unplaced, bad_table, no_value}
 use Rattle.definitions.specs.Nodes.{node_at, table_end, is_run, run_of}

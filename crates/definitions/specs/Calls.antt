@@ -1,6 +1,6 @@
 -- What all calls have in common (H, "Refusal numbers"): a bad schema is refused first, then a root that is no message, then
 -- what the call itself asks for; and a refused call changes nothing.
-use Rattle.std.specs.Prelude.{ℕ, Bool, true, false, not, List}
+use Rattle.std.specs.Prelude.{ℕ, Bool, not, List}
 use Rattle.std.proofs.Math.Option.{Option, none, some}
 use Rattle.std.proofs.lemmas.List.Edits.{sets}
 use Rattle.definitions.specs.Basics.{if◌then◌else◌}

@@ -1,6 +1,6 @@
 -- Byte classes stand in a table of 256 entries (T, H, "Tokens and grammar").
 -- The classes rise so that one comparison tells what goes on a name (9 and up) and what is plain inside a string (5 and up).
-use Rattle.std.specs.Prelude.{ℕ, Bool, true, false, ◌||◌, List, [], ◌∷◌, ltb, leb, eqb, get_or}
+use Rattle.std.specs.Prelude.{ℕ, Bool, ◌||◌, List, [], ◌∷◌, ltb, leb, eqb, get_or}
 use Rattle.definitions.specs.Basics.{if◌then◌else◌}
 use Rattle.definitions.specs.Image.{letter, digit}
 

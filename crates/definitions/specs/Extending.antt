@@ -1,6 +1,5 @@
 -- A newer schema extends an older one (H, "Extending").
-use Rattle.std.specs.Prelude.{ℕ, zero, suc, ◌+◌, Bool, true, false, ◌&&◌, List, leb, eqb}
-use Rattle.definitions.specs.declared.Span.{Span}
+use Rattle.std.specs.Prelude.{ℕ, zero, suc, ◌+◌, Bool, true, ◌&&◌, List, leb, eqb}
 use Rattle.definitions.specs.Basics.{if◌then◌else◌, same, all, any}
 use Rattle.definitions.specs.Image.{message_count, enum_count, message, enumeration, field, member, field_name, member_name}
 

@@ -1,6 +1,6 @@
 -- The schema image (H, "Schema image"): header, records, names, the whole acceptance rule, and lookup.
 -- An image is a list of bytes. Every definition here is total: of an image that is not accepted it says something, and nothing asks.
-use Rattle.std.specs.Prelude.{ℕ, zero, suc, ◌+◌, ◌*◌, Bool, true, false, ◌&&◌, ◌||◌, not, List, [], ◌∷◌, ltb, leb, eqb, length, take, drop}
+use Rattle.std.specs.Prelude.{ℕ, zero, suc, ◌+◌, ◌*◌, Bool, false, ◌&&◌, ◌||◌, not, List, [], ◌∷◌, ltb, leb, eqb, length, take, drop}
 use Rattle.std.proofs.Math.Option.{Option}
 use Rattle.definitions.specs.declared.Span.{Span}
 use Rattle.definitions.specs.declared.Field.{Field}

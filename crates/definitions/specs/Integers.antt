@@ -1,6 +1,6 @@
 -- Integers (T, H, "Tokens and grammar"): decimal, octal (`0` then octal digits), hex (`0x` or `0X` then digits).
 -- How many bytes one takes, what it is worth, and which values each type holds.
-use Rattle.std.specs.Prelude.{ℕ, zero, suc, ◌+◌, ◌-◌, ◌*◌, ◌%◌, ◌^◌, Bool, true, false, ◌&&◌, ◌||◌, List, [], ◌∷◌, ltb, leb, eqb, drop}
+use Rattle.std.specs.Prelude.{ℕ, suc, ◌+◌, ◌-◌, ◌*◌, ◌%◌, ◌^◌, Bool, false, ◌&&◌, ◌||◌, List, [], ◌∷◌, leb, eqb, drop}
 use Rattle.definitions.specs.Basics.{if◌then◌else◌, between}
 use Rattle.definitions.specs.Image.{digit}
 use Rattle.definitions.specs.Nodes.{word64}

@@ -1,6 +1,6 @@
 -- Live names (H, "Live"): that of a live value's field, or the enum's name for a live enum number; an entry's `key` and `value`
 -- don't count. In print order, each with the message or enum that it belongs to.
-use Rattle.std.specs.Prelude.{ℕ, ◌%◌, Bool, true, false, ◌&&◌, List, [], ◌∷◌, ◌++◌, ltb, eqb}
+use Rattle.std.specs.Prelude.{ℕ, ◌%◌, Bool, true, false, List, [], ◌∷◌, ◌++◌, ltb, eqb}
 use Rattle.std.proofs.Math.Option.{Option, none, some}
 use Rattle.definitions.specs.declared.Want.{Want}
 use Rattle.definitions.specs.Basics.{if◌then◌else◌}

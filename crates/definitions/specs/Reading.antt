@@ -1,7 +1,7 @@
 -- Reading a text (R, T, H, "Tokens and grammar"): node words and pool bytes as the text makes them, or the first fault with its
 -- place. One production to a definition; `X s q` looks at the token at the spot q, and `XTok` says what comes of it.
 -- Nesting is recursion in how many levels are left, through the parameter `child`.
-use Rattle.std.specs.Prelude.{ℕ, zero, suc, ◌+◌, ◌-◌, ◌*◌, ◌/◌, ◌%◌, min, Bool, true, false, ◌&&◌, ◌||◌, not, List, [], ◌∷◌, ◌++◌, ltb, leb, eqb, length}
+use Rattle.std.specs.Prelude.{ℕ, zero, suc, ◌+◌, ◌-◌, ◌/◌, min, Bool, true, false, ◌&&◌, ◌||◌, not, List, [], ◌++◌, ltb, leb, eqb, length}
 use Rattle.std.proofs.Math.Option.{Option, none, some}
 use Rattle.definitions.specs.declared.Spot.{Spot}
 use Rattle.definitions.specs.declared.Place.{Place}
@@ -10,7 +10,7 @@ use Rattle.definitions.specs.Basics.{if◌then◌else◌, bytes, same, part}
 use Rattle.definitions.specs.Refusals.{Answer, given, denied, unplaced, text_too_long, bad_token, other_expected, unknown_field, unknown_value, twice, overflow, not_bool, bad_string, too_deep, nodes_short, pool_short, most_text, most_nodes, most_depth}
 use Rattle.definitions.specs.Image.{enumeration, member, find_member}
 use Rattle.definitions.specs.Calls.{barred, unbarred, stored}
-use Rattle.definitions.specs.Scope.{Scope, in_message, in_entry, want, within, find_in, nests, i32, i64, u32, u64, bool, string, byte_string, enum, body, map_entry}
+use Rattle.definitions.specs.Scope.{Scope, in_message, in_entry, want, within, find_in, nests, i32, i64, u32, u64, bool, string, byte_string, enum, body}
 use Rattle.definitions.specs.Nodes.{words, high_of, low_of, widen}
 use Rattle.definitions.specs.Utf8.{utf8}
 use Rattle.definitions.specs.Integers.{integer_value, most_unsigned, most_signed, signed}

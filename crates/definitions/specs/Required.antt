@@ -1,5 +1,5 @@
 -- The required check (R, "Refusal numbers" 17): a required field missing in a live message, root included.
-use Rattle.std.specs.Prelude.{ℕ, zero, suc, ◌+◌, Bool, true, false, ◌&&◌, ◌||◌, not, List}
+use Rattle.std.specs.Prelude.{ℕ, ◌+◌, Bool, true, ◌&&◌, ◌||◌, not, List}
 use Rattle.definitions.specs.declared.Span.{Span}
 use Rattle.definitions.specs.Basics.{if◌then◌else◌, all}
 use Rattle.definitions.specs.Refusals.{Answer, given, denied, unplaced, bad_table, required_missing}

@@ -1,6 +1,6 @@
 -- Where fields stand: in a message, or in an entry of a map field; and what each field of it asks for
 -- (H, "Node table": an entry has the two fields `key` and `value`, 0 and 1).
-use Rattle.std.specs.Prelude.{ℕ, ◌+◌, Bool, true, false, ◌&&◌, ◌||◌, List, ltb, leb, eqb}
+use Rattle.std.specs.Prelude.{ℕ, ◌+◌, Bool, ◌&&◌, ◌||◌, List, ltb, leb, eqb}
 use Rattle.std.proofs.Math.Option.{Option, none, some}
 use Rattle.definitions.specs.declared.Field.{Field}
 use Rattle.definitions.specs.declared.Want.{Want}

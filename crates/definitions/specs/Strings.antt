@@ -1,5 +1,5 @@
 -- Escapes (T, H, "Tokens and grammar"): what the bytes between the quotes of a string stand for.
-use Rattle.std.specs.Prelude.{ℕ, zero, suc, ◌+◌, ◌*◌, min, Bool, true, false, List, [], ◌∷◌, ltb, leb, eqb, length, take, drop, get_or}
+use Rattle.std.specs.Prelude.{ℕ, zero, suc, ◌+◌, ◌*◌, min, Bool, List, [], ◌∷◌, ltb, eqb, length, take, drop, get_or}
 use Rattle.std.proofs.Math.Option.{Option, none, some}
 use Rattle.definitions.specs.Basics.{if◌then◌else◌, find}
 use Rattle.definitions.specs.Integers.{front, octal_digit, hex_digit, worth}

@@ -1,6 +1,6 @@
 -- UTF-8, byte by byte (T; the well-formed sequences are those of the Unicode Standard, table 3-7: no surrogates, no overlong
 -- forms, at most U+10FFFF).
-use Rattle.std.specs.Prelude.{ℕ, ◌-◌, Bool, true, false, ◌&&◌, List, [], ◌∷◌, eqb, leb}
+use Rattle.std.specs.Prelude.{ℕ, ◌-◌, Bool, List, [], ◌∷◌, eqb, leb}
 use Rattle.definitions.specs.declared.Utf8.{Utf8}
 use Rattle.definitions.specs.Basics.{if◌then◌else◌, between}
 

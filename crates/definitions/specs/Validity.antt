@@ -1,7 +1,6 @@
 -- When a node table is valid (H, "Node table").
-use Rattle.std.specs.Prelude.{ℕ, zero, suc, ◌+◌, ◌-◌, ◌*◌, Bool, true, false, ◌&&◌, ◌||◌, List, [], ltb, leb, eqb, length}
+use Rattle.std.specs.Prelude.{ℕ, ◌+◌, ◌-◌, ◌*◌, Bool, true, false, ◌&&◌, ◌||◌, List, ltb, leb, eqb, length}
 use Rattle.definitions.specs.declared.Node.{Node}
-use Rattle.definitions.specs.declared.Want.{Want}
 use Rattle.definitions.specs.Basics.{if◌then◌else◌, between}
 use Rattle.definitions.specs.Refusals.{most_nodes, most_depth, most_number}
 use Rattle.definitions.specs.Scope.{Scope, in_message, in_entry, want, within, has_field, nests, i32, u32, bool, string, enum, body, map_entry, unknown_u32}

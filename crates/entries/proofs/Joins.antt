@@ -1,8 +1,8 @@
 -- One reading after another: what the first stored and what the second stored is what both store.
 use mathlib.Core.Path.{◌≡◌, sym, ◌∙◌, refl, ap}
-use Prim.Native.Nat.{ℕ, zero, suc, ◌≤◌, ◌<◌, ◌-◌, ◌+◌, ◌*◌}
+use Prim.Native.Nat.{ℕ, ◌≤◌, ◌+◌, ◌*◌}
 use mathlib.Core.Bool.{Bool, true, false, ◌&&◌, ◌||◌}
-use mathlib.Core.List.{List, [], ◌∷◌, ◌++◌, append_assoc}
+use mathlib.Core.List.{List, [], ◌++◌, append_assoc}
 use native.Mathlib.Omega.{arith}
 use lib.Dec.{eqb}
 use lib.ListN.{length, replicate, length-replicate, length-append}
@@ -10,9 +10,8 @@ use lib.Seq.{sets}
 use Rattle.definitions.specs.declared.Place.{Place}
 use Rattle.definitions.specs.declared.Spot.{Spot}
 use Rattle.definitions.specs.declared.Want.{Want}
-use Rattle.definitions.specs.Basics.{if◌then◌else◌}
 use Rattle.definitions.specs.Refusals.{too_deep}
-use Rattle.definitions.specs.Scope.{Scope, in_message, in_entry, want, within, string, byte_string, enum, map_entry, body}
+use Rattle.definitions.specs.Scope.{want, within, string, byte_string, enum, map_entry, body}
 use Rattle.definitions.specs.Loop.{Out, done, refused, ahead}
 use Rattle.definitions.specs.Reading.{leaf, default, default_value, unless, joined, closed}
 use Rattle.laws.proofs.Reach.{by-test}
@@ -20,9 +19,9 @@ use Rattle.laws.proofs.Goes.{default-goes}
 use Rattle.lexer.specs.declared.tokens.Line.{Line}
 use Rattle.leaves.specs.declared.Answer.{Answer}
 use Rattle.leaves.specs.declared.Answer.TheVariants as answer
-use Rattle.leaves.specs.Answers.{answer_of, Wrote, Answers, AnswersHere, standing}
+use Rattle.leaves.specs.Answers.{Answers, standing}
 use Rattle.laws.proofs.Stores.{sets-append}
-use Rattle.leaves.proofs.Returns.{answer-done, answer-line, answer-no, no-answers, done-answers, wrote-done, answers_by}
+use Rattle.leaves.proofs.Returns.{answer-done, answer-line, answer-no, no-answers, wrote-done, answers_by}
 use Rattle.entries.proofs.Wants.{within-entry, within-message}
 
 -- five words a node, and each byte in the pool

@@ -1,21 +1,21 @@
 -- What a schema's fields ask for: lookup finds what is there, and what is wanted is there in the schema.
-use mathlib.Core.Path.{◌≡◌, sym, ◌∙◌, refl, ap}
-use Prim.Native.Nat.{ℕ, zero, suc, ◌≤◌, ◌<◌, ◌-◌, ◌+◌}
-use mathlib.Core.Bool.{Bool, true, false, ◌&&◌, ◌||◌, not}
-use mathlib.Core.List.{List, [], ◌∷◌, ◌++◌}
+use mathlib.Core.Path.{◌≡◌, sym, refl}
+use Prim.Native.Nat.{ℕ, ◌≤◌, ◌<◌, ◌+◌}
+use mathlib.Core.Bool.{Bool, true, false}
+use mathlib.Core.List.{List}
 use mathlib.Core.Option.{Option, none, some}
 use native.Mathlib.Omega.{arith}
 use lib.Dec.{leb, ltb, eqb}
-use borrow.Author.Tests.{eq-eqb, ne_eqb, leb-true, ltb-true, le-leb, lt-ltb, eqb-true, eqb-false}
+use borrow.Author.Tests.{eq-eqb, ne_eqb, ltb-true, le-leb, lt-ltb, eqb-true, eqb-false}
 use Rattle.definitions.specs.declared.Want.{Want}
 use Rattle.definitions.specs.declared.Field.{Field}
-use Rattle.definitions.specs.Basics.{if◌then◌else◌, same, find}
-use Rattle.definitions.specs.Image.{accepted, message_count, field_count, enum_count, value_count, message, enumeration, field, member, field_name, member_name, is_map, find_field, find_member, key_good, type_good}
-use Rattle.definitions.specs.Scope.{Scope, in_message, in_entry, key_name, value_name, want_of, want_in, want, within, nests, has_field, find_in, map_entry, body, enum}
+use Rattle.definitions.specs.Basics.{if◌then◌else◌, same}
+use Rattle.definitions.specs.Image.{accepted, field_count, message, field, is_map, find_field}
+use Rattle.definitions.specs.Scope.{Scope, in_message, in_entry, key_name, value_name, want, within, nests, has_field, find_in, map_entry, body}
 use Rattle.laws.proofs.Reach.{by-test}
 use Rattle.laws.proofs.Lists.{find-some, and_parts}
 use Rattle.records.proofs.Room.{field_count-lt}
-use Rattle.records.proofs.Accepted.{Good, message-inside, enum-inside, enum-filled, field-has, reference-enum, reference-message, kind-range, key-range}
+use Rattle.records.proofs.Accepted.{Good, message-inside, field-has, reference-enum, reference-message, kind-range, key-range}
 use Rattle.leaves.specs.Answers.{Fits, Inside}
 
 -- ---- scopes

@@ -3,11 +3,11 @@
 use mathlib.Core.Path.{◌≡◌, refl, sym, ◌∙◌}
 use Prim.Native.Nat.{ℕ, zero, suc, ◌+◌, ◌-◌, ◌*◌, ◌≤◌, ◌<◌}
 use mathlib.Core.Bool.{Bool, true, false, ◌&&◌, ◌||◌, not}
-use mathlib.Core.List.{List, [], ◌∷◌, ◌++◌}
+use mathlib.Core.List.{List, [], ◌++◌}
 use mathlib.Core.Option.{Option, none, some}
 use native.Mathlib.Omega.{arith}
-use lib.Dec.{eqb, leb, ltb}
-use lib.ListN.{length, take, drop, length-append, length-take, length-drop}
+use lib.Dec.{eqb, leb}
+use lib.ListN.{length, drop, length-append, length-take}
 use borrow.Author.Tests.{eqb-true}
 use Rattle.definitions.specs.declared.Spot.{Spot}
 use Rattle.definitions.specs.declared.Place.{Place}
@@ -19,8 +19,8 @@ use Rattle.definitions.specs.Image.{enumeration, member, find_member}
 use Rattle.definitions.specs.Scope.{Scope, in_message, in_entry, want, within, find_in, nests, i32, i64, u32, u64, bool, string, byte_string, enum, body}
 use Rattle.definitions.specs.Nodes.{high_of, low_of, widen}
 use Rattle.definitions.specs.Utf8.{utf8}
-use Rattle.definitions.specs.Integers.{octal_digit, hex_digit, worth, integer_value, most_unsigned, most_signed, signed}
-use Rattle.definitions.specs.Strings.{Piece, piece, bad_piece, up_to, piece_of, octal_piece, hex_piece, letter_piece, find_escape, escape_piece, first_piece, before, follow, decode_f, decode}
+use Rattle.definitions.specs.Integers.{integer_value, most_unsigned, most_signed, signed}
+use Rattle.definitions.specs.Strings.{decode}
 use Rattle.definitions.specs.Tokens.{token, end_of_text, name_token, integer_token, string_token, minus, colon, open_brace}
 use Rattle.definitions.specs.Loop.{Out, done, refused, Stand, Turn, stop, more, ahead, onward, turns, loop}
 use Rattle.definitions.specs.Reading.{moved, leaf, number_leaf, nested, integer_tok, unsigned, negated, signed_tok, signed_value, true_name, false_name, bool_tok, bool_value, member_found, enum_tok, enum_value, decoded, string_tok, string_value, scalar, colon_tok, after_name, Child, opens, closer_of, opener_tok, opened, field, default, joined, unless, default_value, closed, again, noted, turn_of, named, item_tok, item, start, fields, under, read_body, root_want, whole}

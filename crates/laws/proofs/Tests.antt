@@ -1,6 +1,6 @@
 -- Laws of the tests that loops go by: two tests and five, each number below a bound, the first that passes, running totals, each element from a
 -- place on, how many elements from a place on pass.
-use mathlib.Core.Path.{◌≡◌, refl, sym, ◌∙◌}
+use mathlib.Core.Path.{◌≡◌, refl, sym}
 use Prim.Native.Nat.{ℕ, zero, suc, ◌+◌, ◌-◌, ◌≤◌, ◌<◌}
 use mathlib.Core.Bool.{Bool, true, false, ◌&&◌, ◌||◌, not}
 use mathlib.Core.List.{List}

@@ -1,9 +1,8 @@
 -- Answers made and taken apart: a refusal, a leaf, and the words and bytes behind an answer that is done.
-use mathlib.Core.Path.{◌≡◌, sym, ◌∙◌, refl, ap}
-use Prim.Native.Nat.{ℕ, zero, suc, ◌≤◌, ◌<◌, ◌-◌, ◌+◌, ◌*◌, ◌/◌, ◌%◌}
-use mathlib.Core.List.{List, [], ◌∷◌, ◌++◌}
+use mathlib.Core.Path.{◌≡◌, ◌∙◌, refl, ap}
+use Prim.Native.Nat.{ℕ, ◌≤◌, ◌+◌, ◌*◌, ◌/◌, ◌%◌}
+use mathlib.Core.List.{List, []}
 use native.Mathlib.Omega.{arith}
-use native.Mathlib.Nat.{add-zero}
 use lib.ListN.{length}
 use lib.Seq.{sets}
 use Rattle.definitions.specs.declared.Node.{Node}
@@ -12,7 +11,7 @@ use Rattle.definitions.specs.declared.Spot.{Spot}
 use Rattle.definitions.specs.declared.Want.{Want}
 use Rattle.definitions.specs.Nodes.{words, high_of, low_of}
 use Rattle.definitions.specs.Loop.{Out, done, refused}
-use Rattle.definitions.specs.Reading.{leaf, number_leaf, run_leaf}
+use Rattle.definitions.specs.Reading.{number_leaf, run_leaf}
 use Rattle.lexer.specs.declared.tokens.Line.{Line}
 use Rattle.leaves.specs.declared.Answer.{Answer}
 use Rattle.leaves.specs.declared.Answer.TheVariants as answer

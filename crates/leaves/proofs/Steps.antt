@@ -1,29 +1,27 @@
 -- What each way through a reader gives, from the token that it met: one law for each `return`.
 use mathlib.Core.Path.{◌≡◌, sym, ◌∙◌, refl, ap}
-use Prim.Native.Nat.{ℕ, zero, suc, ◌≤◌, ◌<◌, ◌-◌, ◌+◌}
+use Prim.Native.Nat.{ℕ, ◌≤◌, ◌<◌, ◌-◌, ◌+◌}
 use mathlib.Core.Bool.{Bool, true, false, ◌&&◌, ◌||◌, not}
-use mathlib.Core.List.{List, [], ◌∷◌, ◌++◌}
+use mathlib.Core.List.{List, []}
 use mathlib.Core.Option.{Option, none, some}
 use native.Mathlib.Omega.{arith}
-use lib.ListN.{length, drop, get_or}
-use lib.Seq.{drop-cons}
-use lib.Dec.{ltb, leb, eqb}
-use borrow.Author.Tests.{eq-eqb, ne_eqb, eqb-true, eqb-false, ltb-true}
+use lib.ListN.{length}
+use lib.Dec.{leb, eqb}
+use borrow.Author.Tests.{eq-eqb, ne_eqb, eqb-false}
 use Rattle.definitions.specs.declared.Place.{Place}
 use Rattle.definitions.specs.declared.Spot.{Spot}
 use Rattle.definitions.specs.declared.Token.{Token}
 use Rattle.definitions.specs.declared.Want.{Want}
 use Rattle.definitions.specs.Basics.{if◌then◌else◌, same, part}
-use Rattle.definitions.specs.Refusals.{most_text, bad_token, other_expected, unknown_value, overflow, not_bool, bad_string, too_deep}
+use Rattle.definitions.specs.Refusals.{most_text, bad_token, other_expected, unknown_value, overflow, not_bool, bad_string}
 use Rattle.definitions.specs.Image.{member, enumeration, find_member}
-use Rattle.definitions.specs.Scope.{i32, i64, u32, u64, bool, string, byte_string, enum, body}
+use Rattle.definitions.specs.Scope.{i32, i64, u32, u64, bool, string, byte_string, enum}
 use Rattle.definitions.specs.Nodes.{widen}
 use Rattle.definitions.specs.Utf8.{utf8}
 use Rattle.definitions.specs.Integers.{integer_value, most_unsigned, most_signed, signed}
-use Rattle.definitions.specs.Classes.{class, classes, symbol_class}
-use Rattle.definitions.specs.Tokens.{Scan, token, bad, token_of, gap, skip, scan_from, scan, name_token, integer_token, string_token, minus, colon}
+use Rattle.definitions.specs.Tokens.{Scan, token, bad, scan, name_token, integer_token, string_token, minus, colon}
 use Rattle.definitions.specs.Strings.{decode}
-use Rattle.definitions.specs.Loop.{Out, done, refused}
+use Rattle.definitions.specs.Loop.{refused}
 use Rattle.definitions.specs.Reading.{moved, number_leaf, run_leaf, integer_tok, unsigned, negated, signed_value, true_name, false_name, bool_value, enum_value, string_value, scalar, after_name, default}
 use Rattle.lexer.specs.declared.tokens.Line.{Line}
 use Rattle.lexer.specs.declared.tokens.Cursor.{Cursor}
@@ -38,7 +36,6 @@ use Rattle.leaves.specs.declared.Answer.TheVariants as answer
 use Rattle.lexer.specs.Steps.{line_at, cursor_at, Located, step_of}
 use Rattle.integers.specs.Values.{integer_of}
 use Rattle.strings.specs.Values.{decoded_of}
-use Rattle.laws.proofs.Lists.{and_parts}
 use Rattle.laws.proofs.Reach.{reach}
 use Rattle.laws.proofs.Decoding.{decode-length}
 use Rattle.laws.proofs.Goes.{part-le}

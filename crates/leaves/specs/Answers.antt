@@ -1,5 +1,5 @@
 -- What the readers presume and what they answer.
-use Rattle.std.specs.Prelude.{◌≡◌, ℕ, ◌+◌, ◌*◌, ◌/◌, ◌≤◌, ◌<◌, Bool, true, false, List, ltb, eqb, length}
+use Rattle.std.specs.Prelude.{◌≡◌, ℕ, ◌+◌, ◌*◌, ◌/◌, ◌≤◌, ◌<◌, Bool, true, List, ltb, eqb, length}
 use Rattle.std.proofs.lemmas.List.Edits.{sets}
 use Rattle.definitions.specs.declared.Spot.{Spot}
 use Rattle.definitions.specs.declared.Token.{Token}
@@ -8,7 +8,6 @@ use Rattle.definitions.specs.Basics.{if◌then◌else◌}
 use Rattle.definitions.specs.Refusals.{bad_token, other_expected, most_text}
 use Rattle.definitions.specs.Image.{message_count, field_count, enum_count, field, is_map}
 use Rattle.definitions.specs.Scope.{i32, u32, enum, body, map_entry, within, has_field}
-use Rattle.definitions.specs.Tokens.{string_token}
 use Rattle.definitions.specs.Classes.{classes}
 use Rattle.definitions.specs.Strings.{escapes}
 use Rattle.definitions.specs.Reading.{opens, closer_of, noted}

@@ -7,9 +7,9 @@ use mathlib.Core.List.{List, [], ◌∷◌, ◌++◌}
 use mathlib.Core.Option.{Option, none, some}
 use native.Mathlib.Omega.{arith}
 use native.Mathlib.Numerals.{add-one}
-use lib.Dec.{ltb, eqb}
-use lib.ListN.{length, get_or, take, drop, length-drop, length-take, length-append}
-use lib.Seq.{drop-cons, length-take-le, take-append-add, take-suc}
+use lib.Dec.{eqb}
+use lib.ListN.{length, get_or, take, drop, length-drop, length-take}
+use lib.Seq.{drop-cons, length-take-le, take-suc}
 use borrow.Author.Tests.{eq-eqb, ne_eqb, eqb-true, eqb-false}
 use Rattle.definitions.specs.declared.Place.{Place}
 use Rattle.definitions.specs.Basics.{if◌then◌else◌}
@@ -18,13 +18,13 @@ use Rattle.definitions.specs.Image.{digit}
 use Rattle.definitions.specs.Classes.{class, classes, goes_on, newline_class, quote_class, symbol_class, digit_class, letter_class}
 use Rattle.definitions.specs.Integers.{front, octal_digit, hex_digit, hex_ahead, integer_length, runs_on}
 use Rattle.definitions.specs.Places.{newline, newlines, behind, place_of}
-use Rattle.definitions.specs.Tokens.{Scan, token, bad, inside, one_more, token_of, integer_scan, string_scan, scan_from, skip, scan, colon, name_token, integer_token, string_token}
+use Rattle.definitions.specs.Tokens.{Scan, inside, one_more, token_of, integer_scan, string_scan, scan_from, skip, scan, colon, name_token, integer_token, string_token}
 use Rattle.laws.proofs.Lists.{true-false, and_parts, front-le}
 use Rattle.laws.proofs.ClassTable.{newline-class}
 use Rattle.laws.proofs.Reach.{by-test, inside-lt, integer_length-le}
 use Rattle.lexer.specs.declared.tokens.Line.{Line}
 use Rattle.lexer.specs.declared.tokens.Cursor.{Cursor}
-use Rattle.lexer.specs.Steps.{line_at, cursor_at, Located, place_at, on_line, step_of, comment}
+use Rattle.lexer.specs.Steps.{line_at, place_at, on_line, step_of, comment}
 
 -- ---- newlines among bytes
 

@@ -7,12 +7,11 @@ use mathlib.Core.Path.{◌≡◌, refl, sym, ◌∙◌}
 use mathlib.Core.List.{List}
 use lib.Dec.{eqb}
 use borrow.Author.Tests.{eqb-true, eqb-false, eq-eqb, ne_eqb}
-use Rattle.definitions.specs.declared.Node.{Node}
 use Rattle.definitions.specs.Basics.{if◌then◌else◌}
 use Rattle.definitions.specs.Scope.{Scope, in_message, in_entry, want, within, map_entry}
 use Rattle.definitions.specs.Nodes.{node_at, table_end, is_unknown, forest}
 use Rattle.definitions.specs.Validity.{is_pair, valid}
-use Rattle.definitions.specs.Live.{node, rank_of, value_of, tree_of, key_of}
+use Rattle.definitions.specs.Live.{node, value_of, tree_of, key_of}
 use Rattle.laws.proofs.Forest.{end_of, Tiled, tiles-parts, forest-some}
 use Rattle.nodes.specs.Span.{Sound}
 use Rattle.live.specs.Live.{Kept, Entry, key_at, key_in}

@@ -1,6 +1,6 @@
 -- The required check, node by node: whether a rank has a value, whether a message's required fields have one, and the walk over the
 -- live messages and entries of a span.
-use Prim.Native.Nat.{ℕ, ◌+◌, ◌-◌, ◌≤◌, ◌<◌}
+use Prim.Native.Nat.{ℕ, ◌+◌, ◌≤◌, ◌<◌}
 use native.Mathlib.Omega.{arith}
 use native.Mathlib.Numerals.{add-one}
 use mathlib.Core.Bool.{Bool, true, false, ◌&&◌, ◌||◌, not}

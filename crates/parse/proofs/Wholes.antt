@@ -1,6 +1,6 @@
 -- The whole text: the pass that counts, and the pass that stores.
 use mathlib.Core.Path.{◌≡◌, sym, ◌∙◌, refl, ap}
-use Prim.Native.Nat.{ℕ, zero, suc, ◌≤◌, ◌<◌, ◌-◌, ◌+◌, ◌*◌, ◌/◌, min}
+use Prim.Native.Nat.{ℕ, ◌≤◌, ◌<◌, ◌+◌}
 use mathlib.Core.List.{List, [], ◌∷◌, ◌++◌}
 use native.Mathlib.Omega.{arith}
 use lib.ListN.{length}
@@ -8,11 +8,10 @@ use lib.Seq.{sets}
 use borrow.Author.Tests.{lt-ltb, le-ltb}
 use Rattle.definitions.specs.declared.Place.{Place}
 use Rattle.definitions.specs.declared.Spot.{Spot}
-use Rattle.definitions.specs.declared.Want.{Want}
 use Rattle.definitions.specs.Refusals.{given, nodes_short, pool_short, most_text, most_nodes, most_depth, unplaced}
 use Rattle.definitions.specs.Scope.{in_message, within, body}
 use Rattle.definitions.specs.Nodes.{words}
-use Rattle.definitions.specs.Loop.{Out, done, refused}
+use Rattle.definitions.specs.Loop.{done}
 use Rattle.definitions.specs.Reading.{root_want, read_body, nested, whole, node_room, fitted}
 use Rattle.laws.proofs.Goes.{Went, plain, read_body-goes}
 use Rattle.leaves.specs.declared.Answer.{Answer}
@@ -20,7 +19,7 @@ use Rattle.leaves.specs.declared.Answer.TheVariants as answer
 use Rattle.parse.specs.declared.Read.{Read}
 use Rattle.parse.specs.declared.Read.TheVariants as read
 use Rattle.lexer.specs.declared.tokens.Line.{Line}
-use Rattle.leaves.specs.Answers.{answer_of, put_at, Fair, Fits, Answers}
+use Rattle.leaves.specs.Answers.{put_at, Answers}
 use Rattle.parse.specs.Whole.{read_of, fitted_read, fitted_nodes, fitted_pool, refusal_of}
 use Rattle.bodies.proofs.Origin.{origin}
 use Rattle.leaves.proofs.Stores.{parent-put}

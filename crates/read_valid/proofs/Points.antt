@@ -1,34 +1,32 @@
 -- Why a refused read points into its text: every place that reading hands on is that of a token, and a token's place is the text's.
-use mathlib.Core.Path.{◌≡◌, refl, sym, ◌∙◌, ap}
-use mathlib.Core.Logic.{◌⊎◌, inl, inr}
+use mathlib.Core.Path.{◌≡◌, refl}
 use Prim.Native.Nat.{ℕ, zero, suc, ◌+◌, ◌-◌, ◌≤◌, ◌<◌}
 use mathlib.Core.Bool.{Bool, true, false, ◌&&◌, ◌||◌, not}
 use mathlib.Core.List.{List, [], ◌∷◌}
 use mathlib.Core.Option.{Option, none, some}
 use native.Mathlib.Omega.{arith}
-use lib.Dec.{ltb, leb, eqb}
+use lib.Dec.{leb, eqb}
 use lib.ListN.{length, drop}
 use Rattle.definitions.specs.declared.Place.{Place}
 use Rattle.definitions.specs.declared.Spot.{Spot}
 use Rattle.definitions.specs.declared.Token.{Token}
 use Rattle.definitions.specs.declared.Want.{Want}
-use Rattle.definitions.specs.Basics.{if◌then◌else◌, same, part}
-use Rattle.definitions.specs.Refusals.{Answer, given, denied, unplaced, text_too_long, bad_table, most_text, most_depth}
-use Rattle.definitions.specs.Image.{accepted, is_message, find_member}
+use Rattle.definitions.specs.Basics.{same, part}
+use Rattle.definitions.specs.Refusals.{most_depth}
+use Rattle.definitions.specs.Image.{find_member}
 use Rattle.definitions.specs.Scope.{Scope, in_message, in_entry, want, within, find_in, nests, i32, i64, u32, u64, bool, string, byte_string, enum, body}
-use Rattle.definitions.specs.Classes.{class, goes_on, quote_class, symbol_class, digit_class, letter_class}
+use Rattle.definitions.specs.Classes.{class, quote_class, symbol_class, digit_class, letter_class}
 use Rattle.definitions.specs.Utf8.{utf8}
-use Rattle.definitions.specs.Integers.{front, integer_length, runs_on, integer_value, most_unsigned, most_signed}
+use Rattle.definitions.specs.Integers.{integer_length, runs_on, integer_value, most_unsigned, most_signed}
 use Rattle.definitions.specs.Places.{place_of}
-use Rattle.definitions.specs.Tokens.{Scan, token, bad, inside, token_of, integer_scan, string_scan, scan_from, skip, scan, end_of_text, name_token, integer_token, string_token, minus, colon}
+use Rattle.definitions.specs.Tokens.{Scan, token, bad, inside, integer_scan, string_scan, scan_from, skip, scan, end_of_text, name_token, integer_token, string_token, minus, colon}
 use Rattle.definitions.specs.Strings.{decode}
-use Rattle.definitions.specs.Calls.{barred, unbarred}
 use Rattle.definitions.specs.Loop.{Out, done, refused, Stand, Turn, stop, more, ahead, onward, turns, loop}
-use Rattle.definitions.specs.Reading.{moved, nested, Child, opens, closer_of, integer_tok, unsigned, negated, signed_tok, signed_value, true_name, false_name, bool_tok, bool_value, member_found, enum_tok, enum_value, decoded, string_tok, string_value, scalar, colon_tok, after_name, opener_tok, opened, field, default, joined, unless, default_value, closed, again, turn_of, named, item_tok, item, start, fields, under, read_body, root_want, whole, Made, read_barred, node_room, fitted, read_answer}
-use Rattle.laws.proofs.Reach.{by-test, Reach, reach, skip-le}
+use Rattle.definitions.specs.Reading.{moved, nested, Child, opens, closer_of, integer_tok, unsigned, negated, signed_tok, signed_value, true_name, false_name, bool_tok, bool_value, member_found, enum_tok, enum_value, decoded, string_tok, string_value, scalar, colon_tok, after_name, opener_tok, opened, field, default, joined, unless, default_value, closed, again, turn_of, named, item_tok, item, start, fields, under, read_body, root_want, whole}
+use Rattle.laws.proofs.Reach.{by-test, reach, skip-le}
 use Rattle.laws.proofs.Loop.{Forward}
 use Rattle.laws.proofs.Goes.{ChildGoes, under_goes, item-forward}
-use Rattle.read_valid.specs.Told.{Points, Bare, Told, Untold}
+use Rattle.read_valid.specs.Told.{Points}
 
 -- ---- the place of a token
 

@@ -1,7 +1,7 @@
 -- Where the refusals of each call point: of a read 4 to 12 into the text, all others nowhere.
-use mathlib.Core.Path.{◌≡◌, refl}
-use mathlib.Core.Logic.{◌⊎◌, inl, inr}
-use Prim.Native.Nat.{ℕ, ◌≤◌, ◌<◌}
+use mathlib.Core.Path.{refl}
+use mathlib.Core.Logic.{inl, inr}
+use Prim.Native.Nat.{ℕ, ◌<◌}
 use mathlib.Core.Bool.{Bool, true, false, not}
 use mathlib.Core.List.{List}
 use mathlib.Core.Option.{Option, none, some}
@@ -9,20 +9,20 @@ use native.Mathlib.Omega.{arith}
 use lib.Dec.{ltb, leb}
 use lib.ListN.{length}
 use Rattle.definitions.specs.Basics.{if◌then◌else◌}
-use Rattle.definitions.specs.Refusals.{Answer, given, denied, unplaced, bad_schema, no_message, text_too_long, bad_table, buffer_short, required_missing, no_value, nodes_short, pool_short, most_text}
+use Rattle.definitions.specs.Refusals.{Answer, given, denied, unplaced, bad_table, buffer_short, required_missing, no_value, most_text}
 use Rattle.definitions.specs.Image.{accepted, is_message}
 use Rattle.definitions.specs.Scope.{in_message}
 use Rattle.definitions.specs.Validity.{valid}
 use Rattle.definitions.specs.Live.{meaning}
 use Rattle.definitions.specs.Calls.{barred, unbarred}
 use Rattle.definitions.specs.Loop.{Out, done, refused}
-use Rattle.definitions.specs.Reading.{Made, whole, read_barred, node_room, fitted, read_answer}
+use Rattle.definitions.specs.Reading.{whole, read_barred, node_room, fitted, read_answer}
 use Rattle.definitions.specs.Nodes.{node_at, run_of}
 use Rattle.definitions.specs.Print.{Style, print_text, print_fitted, print_answer}
 use Rattle.definitions.specs.Required.{complete, required_answer}
 use Rattle.definitions.specs.Access.{is_value, value_answer}
 use Rattle.laws.proofs.Reach.{by-test}
-use Rattle.read_valid.specs.Told.{Points, Bare, Told, Untold}
+use Rattle.read_valid.specs.Told.{Bare, Told, Untold}
 use Rattle.read_valid.proofs.Points.{Faults, whole-faults}
 
 bare : (n : ℕ) → Bare (unplaced n)

@@ -1,5 +1,5 @@
 -- An image's layout, what is known of an image and its layout, and what a lookup finds.
-use Rattle.std.specs.Prelude.{◌≡◌, ℕ, Bool, true, List, length}
+use Rattle.std.specs.Prelude.{◌≡◌, ℕ, true, List, length}
 use Rattle.std.proofs.Math.Option.{Option, none, some}
 use Rattle.definitions.specs.Basics.{all}
 use Rattle.definitions.specs.Image.{message_count, field_count, enum_count, value_count, fields_at, enums_at, values_at, names_at, image_length, message, enumeration, running, field_good, member_good, accepted}

@@ -1,10 +1,9 @@
 -- A loop that stores bytes one after another.
 use mathlib.Core.Path.{◌≡◌, ◌∙◌, refl, ap}
-use mathlib.Core.List.{List, [], ◌∷◌, ◌++◌}
-use Prim.Native.Nat.{ℕ, suc, ◌≤◌, ◌<◌, ◌+◌}
+use mathlib.Core.List.{List}
+use Prim.Native.Nat.{ℕ, ◌≤◌, ◌<◌, ◌+◌}
 use native.Mathlib.Omega.{arith}
 use native.Mathlib.Numerals.{add-one}
-use native.Mathlib.Nat.{add-zero}
 use lib.ListN.{length, get_or, set, take}
 use lib.Seq.{sets, length-sets, take-suc, take_all, length-take-le}
 use Rattle.laws.proofs.Stores.{sets-snoc}

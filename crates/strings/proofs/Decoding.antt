@@ -1,16 +1,14 @@
 -- How far a piece of a string reaches, and decoding piece after piece, where the fuel no longer shows.
 use mathlib.Core.Path.{◌≡◌, sym, ◌∙◌, refl, ap}
-use mathlib.Core.Bool.{Bool, true, false}
+use mathlib.Core.Bool.{Bool}
 use mathlib.Core.List.{List, [], ◌∷◌}
 use mathlib.Core.Option.{Option, none, some}
-use Prim.Native.Nat.{ℕ, zero, suc, ◌≤◌, ◌-◌, ◌+◌}
+use Prim.Native.Nat.{ℕ, zero, suc, ◌≤◌}
 use native.Mathlib.Omega.{arith}
 use native.Mathlib.Nat.{min-le_right}
-use lib.Dec.{ltb, eqb}
-use lib.ListN.{length, take, drop, length-drop}
-use Rattle.definitions.specs.Basics.{if◌then◌else◌}
-use Rattle.definitions.specs.Integers.{front, octal_digit, hex_digit, worth}
-use Rattle.definitions.specs.Strings.{Piece, piece, bad_piece, up_to, piece_of, octal_piece, hex_piece, letter_piece, find_escape, escape_piece, first_piece, before, follow, decode_f, decode}
+use lib.ListN.{length, drop, length-drop}
+use Rattle.definitions.specs.Integers.{front}
+use Rattle.definitions.specs.Strings.{Piece, piece, bad_piece, up_to, first_piece, before, follow, decode_f, decode}
 use Rattle.laws.proofs.Lists.{front-le}
 use Rattle.laws.proofs.Decoding.{piece-taken}
 use Rattle.strings.specs.Values.{ahead, front_f, decoded_front}

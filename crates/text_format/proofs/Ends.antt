@@ -1,12 +1,12 @@
 -- How a read ends: barred by schema, root or length, or as the readers end.
-use mathlib.Core.Path.{◌≡◌, sym, ◌∙◌, refl, ap}
+use mathlib.Core.Path.{◌≡◌, sym, ◌∙◌, refl}
 use Prim.Native.Nat.{ℕ, ◌≤◌, ◌<◌}
-use mathlib.Core.Bool.{Bool, true, false, not}
+use mathlib.Core.Bool.{true, false}
 use mathlib.Core.List.{List}
-use mathlib.Core.Option.{Option, none, some}
+use mathlib.Core.Option.{none, some}
 use lib.ListN.{length}
 use borrow.Author.Tests.{lt-ltb, le-ltb, le-leb, lt-leb}
-use Rattle.definitions.specs.Refusals.{bad_schema, no_message, text_too_long, most_text, unplaced, denied}
+use Rattle.definitions.specs.Refusals.{bad_schema, no_message, text_too_long, most_text, unplaced}
 use Rattle.definitions.specs.Image.{accepted, is_message, message_count}
 use Rattle.definitions.specs.Calls.{barred}
 use Rattle.definitions.specs.Reading.{read_barred, read_answer, read_nodes, read_pool}

@@ -1,6 +1,6 @@
 -- How a print ends: barred, too long for the buffer, or printed.
 use mathlib.Core.Path.{◌≡◌, sym, ◌∙◌, refl, ap}
-use Prim.Native.Nat.{ℕ, ◌+◌, ◌≤◌, ◌<◌}
+use Prim.Native.Nat.{ℕ, ◌≤◌, ◌<◌}
 use mathlib.Core.List.{List, [], ◌∷◌, ◌++◌}
 use mathlib.Core.Option.{some}
 use native.Mathlib.Omega.{arith}

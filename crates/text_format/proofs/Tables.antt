@@ -1,14 +1,14 @@
 -- Calls over a table: what bars them, and how they answer where nothing does.
-use mathlib.Core.Path.{◌≡◌, sym, ◌∙◌, refl, ap}
+use mathlib.Core.Path.{◌≡◌, sym, ◌∙◌, refl}
 use Prim.Native.Nat.{ℕ, suc, ◌≤◌, ◌<◌}
-use mathlib.Core.Bool.{Bool, true, false, not}
+use mathlib.Core.Bool.{Bool, true, false}
 use mathlib.Core.List.{List, []}
 use mathlib.Core.Option.{Option, none, some}
 use native.Mathlib.Omega.{arith}
 use lib.Dec.{ltb}
 use borrow.Author.Tests.{lt-ltb, le-ltb, ltb-true, ltb-false}
 use Rattle.definitions.specs.Basics.{if◌then◌else◌}
-use Rattle.definitions.specs.Refusals.{bad_schema, no_message, bad_table, required_missing, no_value, unplaced, Answer, given, denied}
+use Rattle.definitions.specs.Refusals.{bad_schema, no_message, bad_table, required_missing, no_value, unplaced}
 use Rattle.definitions.specs.Image.{accepted, is_message, message_count}
 use Rattle.definitions.specs.Scope.{in_message}
 use Rattle.definitions.specs.Nodes.{node_at, run_of}
@@ -16,13 +16,11 @@ use Rattle.definitions.specs.Validity.{valid}
 use Rattle.definitions.specs.Live.{meaning}
 use Rattle.definitions.specs.Calls.{barred}
 use Rattle.definitions.specs.Required.{complete, required_answer}
-use Rattle.definitions.specs.Access.{is_value, value_answer, value_bytes, lent}
+use Rattle.definitions.specs.Access.{is_value, value_answer, value_bytes}
 use Rattle.message.specs.Value.{value_run, lent_run}
 use Rattle.message.specs.declared.access.Run.{Run}
 use Rattle.message.specs.declared.access.Run.TheVariants as run
-use Rattle.text_format.specs.declared.Checked.{Checked}
 use Rattle.text_format.specs.declared.Checked.TheVariants as checked
-use Rattle.text_format.specs.declared.Valued.{Valued}
 use Rattle.text_format.specs.declared.Valued.TheVariants as valued
 use Rattle.text_format.specs.Answers.{bar_number, table_barred, checked_of, valued_of}
 

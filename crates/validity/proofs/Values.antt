@@ -3,10 +3,10 @@ use Prim.Native.Nat.{ℕ, zero, suc, ◌+◌, ◌-◌, ◌≤◌, ◌<◌}
 use native.Mathlib.Omega.{arith}
 use mathlib.Core.Bool.{Bool, true, false}
 use mathlib.Core.Path.{◌≡◌, refl, sym, ◌∙◌}
-use mathlib.Core.List.{List, []}
+use mathlib.Core.List.{List}
 use lib.Dec.{eqb, ltb, leb}
-use lib.ListN.{length, take, drop}
-use borrow.Author.Tests.{ltb-true, ltb-false, leb-true, eqb-true, eqb-false, lt-ltb, le-ltb}
+use lib.ListN.{length}
+use borrow.Author.Tests.{ltb-true, ltb-false, leb-true, eqb-true, eqb-false}
 use Rattle.definitions.specs.declared.Node.{Node}
 use Rattle.definitions.specs.Basics.{if◌then◌else◌}
 use Rattle.definitions.specs.Scope.{Scope, in_message, want, within, nests, body, map_entry, string}
@@ -17,7 +17,7 @@ use Rattle.definitions.specs.Utf8.{utf8}
 use Rattle.laws.proofs.Lists.{and_parts, true-false}
 use Rattle.laws.proofs.Forest.{end_of}
 use Rattle.validity.proofs.Spans.{GoodSpan, Head, span-parts, first-tiled, first_head, first_rest}
-use Rattle.validity.proofs.Root.{root-parts, valid-no, valid-span}
+use Rattle.validity.proofs.Root.{valid-no, valid-span}
 
 -- ---- each node of a good span has a good value
 

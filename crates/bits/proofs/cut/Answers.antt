@@ -5,7 +5,6 @@ use native.Mathlib.Omega.{arith}
 use lib.Bits.{bit_and, and_mask}
 use lib.Pow.{pow_pos}
 use Rattle.bits.proofs.BitLaws.{one_shifted}
-use borrow.Author.Rules.{rules}
 use Rattle.bits.proofs.cut.Goals as goal
 
 pub overflow_sub-result : goal.overflow_sub-result

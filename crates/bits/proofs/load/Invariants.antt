@@ -1,10 +1,7 @@
 -- `bits::load` meets its contract. The invariant: the bytes passed are one field.
-use mathlib.Core.Path.{◌≡◌, refl, sym, ◌∙◌, ap}
-use Prim.Native.Nat.{ℕ, ◌+◌, ◌*◌, ◌-◌, ◌≤◌}
-use native.Mathlib.Omega.{arith}
-use lib.ListN.{get_or}
+use mathlib.Core.Path.{◌≡◌}
+use Prim.Native.Nat.{◌*◌, ◌-◌, ◌≤◌}
 use Rattle.definitions.specs.Bits.{bits}
-use Rattle.bits.proofs.BitLaws.{bits-more, bits_below}
 use Rattle.bits.proofs.load.Given as goal
 
 abbrev pub invariant-loop-i : goal.invariant-loop-i

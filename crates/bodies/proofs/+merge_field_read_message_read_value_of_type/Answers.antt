@@ -1,21 +1,15 @@
 -- The cycle of message, field and value readers. The falling number is the text left, twice, and the levels left: a field takes its name
 -- off the text, what lies inside a value takes the opener off the text and one level, and a field's value stands where the field does, so that
 -- a field and a message count one more. The loop's invariant says what is read and stored so far.
-use mathlib.Core.Path.{◌≡◌, refl, sym, ap, ◌∙◌}
-use Prim.Native.Nat.{ℕ, suc, ◌<◌, ◌≤◌, ◌+◌, ◌-◌, ◌*◌}
+use mathlib.Core.Path.{refl, sym, ap, ◌∙◌}
 use native.Mathlib.Omega.{arith}
-use mathlib.Core.List.{List}
-use lib.ListN.{length}
 use Rattle.definitions.specs.declared.Want.{Want}
 use Rattle.definitions.specs.Reading.{field, under}
-use Rattle.laws.proofs.Reach.{reach}
-use Rattle.leaves.specs.Answers.{standing}
 use Rattle.leaves.proofs.Returns.{no-answers, answers_by, answers-from}
 use Rattle.leaves.proofs.Steps.{fair-located, scanned-line, scanned, scanned-bad, bad-is, reached, nothing_is, found-is}
 use Rattle.entries.proofs.Wants.{want-fits, want-field, found_inside}
-use Rattle.bodies.proofs.Turns.{Rest, begins, ends, rest-bad, rest-closed, rest-other, rest-unknown, rest-twice, falls as name-falls, fair-after, field-no, further, next-inside, goes_on, stands, again-at}
+use Rattle.bodies.proofs.Turns.{begins, ends, rest-bad, rest-closed, rest-other, rest-unknown, rest-twice, falls as name-falls, fair-after, field-no, further, next-inside, goes_on, stands, again-at}
 use Rattle.bodies.proofs.Nested.{closed_at, nests-high, field_plain, field-bad, field-other, field-deep, child-falls, child-fair, nested-no, nested-node, nested-put}
-use borrow.Author.Rules.{rules}
 use Rattle.bodies.proofs.+merge_field_read_message_read_value_of_type.Goals as goal
 
 pub merge_field-want_in-asked-requires : goal.merge_field-want_in-asked-requires

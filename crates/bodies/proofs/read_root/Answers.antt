@@ -1,7 +1,6 @@
 -- `bodies::read_root` meets its contract: the root is a message of the schema, read from the start of the text.
 use mathlib.Core.Path.{refl}
 use Rattle.bodies.proofs.Origin.{origin-fair, root-fits}
-use borrow.Author.Rules.{rules}
 use Rattle.bodies.proofs.read_root.Goals as goal
 
 pub read_message-requires : goal.read_message-requires

@@ -1,7 +1,6 @@
 -- `carry::carried_read` meets its contract.
 use mathlib.Core.Path.{sym, ap}
 use Rattle.carry.specs.Answers.{carried_read}
-use borrow.Author.Rules.{rules}
 use Rattle.carry.proofs.carried_read.Goals as goal
 
 pub returns-in-Made : goal.returns-in-Made

@@ -3,7 +3,6 @@ use mathlib.Core.Path.{sym}
 use lib.Seq.{length-take-le}
 use Rattle.fields.specs.Fields.{style_of}
 use Rattle.carry.proofs.Carrying.{promised, ends-refused, ends_read, length-fits}
-use borrow.Author.Rules.{rules}
 use Rattle.carry.proofs.carry.Goals as goal
 
 pub returns-in-No : goal.returns-in-No

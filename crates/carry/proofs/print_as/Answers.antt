@@ -1,7 +1,6 @@
 -- `carry::print_as` meets its contract.
 use mathlib.Core.Bool.{true, false}
 use Rattle.carry.proofs.Printing.{styled}
-use borrow.Author.Rules.{rules}
 use Rattle.carry.proofs.print_as.Goals as goal
 
 pub returns-then-pretty : goal.returns-then-pretty

@@ -1,11 +1,6 @@
 -- `distinct::enums_distinct` meets its contract. The invariant: the runs passed are distinct.
-use mathlib.Core.Path.{◌≡◌, sym, ◌∙◌, ap}
-use Prim.Native.Nat.{ℕ, ◌-◌, ◌≤◌}
-use mathlib.Core.Bool.{Bool, true}
-use mathlib.Core.List.{List}
+use mathlib.Core.Path.{sym, ◌∙◌, ap}
 use native.Mathlib.Omega.{arith}
-use borrow.Author.Tests.{not-true, not-false}
-use Rattle.definitions.specs.Basics.{all}
 use Rattle.definitions.specs.Image.{enum_count, value_count, enumeration, members_agree, distinct}
 use Rattle.records.proofs.Room.{header-room, enum_count-lt}
 use Rattle.records.proofs.Accepted.{members_run}

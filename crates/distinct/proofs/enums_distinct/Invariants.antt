@@ -1,17 +1,10 @@
 -- `distinct::enums_distinct` meets its contract. The invariant: the runs passed are distinct.
-use mathlib.Core.Path.{◌≡◌, sym, ◌∙◌, ap}
+use mathlib.Core.Path.{◌≡◌}
 use Prim.Native.Nat.{ℕ, ◌-◌, ◌≤◌}
 use mathlib.Core.Bool.{Bool, true}
 use mathlib.Core.List.{List}
-use native.Mathlib.Omega.{arith}
-use borrow.Author.Tests.{not-true, not-false}
 use Rattle.definitions.specs.Basics.{all}
-use Rattle.definitions.specs.Image.{enum_count, value_count, enumeration, members_agree, distinct}
-use Rattle.records.proofs.Room.{header-room, enum_count-lt}
-use Rattle.records.proofs.Accepted.{members_run}
-use Rattle.records.proofs.Search.{run_fits}
-use Rattle.laws.proofs.Lists.{all-fails}
-use Rattle.laws.proofs.Tests.{all_start, all_more, all_done}
+use Rattle.definitions.specs.Image.{enumeration, members_agree, distinct}
 use Rattle.distinct.proofs.enums_distinct.Given as goal
 
 abbrev pub apart : List ℕ → ℕ → Bool

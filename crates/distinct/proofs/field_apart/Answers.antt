@@ -1,13 +1,13 @@
 -- `distinct::field_apart` meets its contract. The invariant: none of those passed agrees.
 use mathlib.Core.Path.{◌≡◌, sym, ◌∙◌, ap}
-use Prim.Native.Nat.{ℕ, ◌+◌, ◌-◌, ◌≤◌, ◌<◌}
-use mathlib.Core.Bool.{Bool, true, false, not}
+use Prim.Native.Nat.{ℕ, ◌+◌, ◌<◌}
+use mathlib.Core.Bool.{true, false, not}
 use mathlib.Core.List.{List}
 use native.Mathlib.Omega.{arith}
 use lib.Dec.{eqb}
 use borrow.Author.Tests.{eq-eqb, ne_eqb}
 use Rattle.definitions.specs.declared.Field.{Field}
-use Rattle.definitions.specs.Basics.{all, same}
+use Rattle.definitions.specs.Basics.{same}
 use Rattle.definitions.specs.Image.{field_count, field, field_name, fields_agree}
 use Rattle.records.proofs.Room.{field_count-lt}
 use Rattle.records.proofs.Accepted.{fields-name}

@@ -1,20 +1,11 @@
 -- `distinct::fields_distinct` meets its contract. The invariant: those passed are apart, and their marks and greatest number are kept.
-use mathlib.Core.Path.{◌≡◌, sym, ◌∙◌}
-use Prim.Native.Nat.{ℕ, ◌+◌, ◌-◌, ◌^◌, max, ◌≤◌, ◌<◌}
+use mathlib.Core.Path.{◌≡◌}
+use Prim.Native.Nat.{ℕ, ◌+◌, ◌-◌, ◌≤◌}
 use mathlib.Core.Bool.{Bool, true, not}
 use mathlib.Core.List.{List}
-use native.Mathlib.Omega.{arith}
-use lib.Bits.{bit_or}
-use borrow.Author.Tests.{not-true, not-false}
-use Rattle.definitions.specs.declared.Field.{Field}
 use Rattle.definitions.specs.Basics.{all}
-use Rattle.definitions.specs.Image.{field_count, field, field_name, fields_agree, distinct}
-use Rattle.distinct.specs.Seen.{mark_of, Seen}
-use Rattle.records.proofs.Room.{field_count-lt}
-use Rattle.records.proofs.Accepted.{fields-name}
-use Rattle.laws.proofs.Lists.{all-fails}
-use Rattle.laws.proofs.Tests.{all_start, all_more, all_done}
-use Rattle.distinct.proofs.Marks.{mark-lt, seen_start, seen_next}
+use Rattle.definitions.specs.Image.{field, field_name, fields_agree}
+use Rattle.distinct.specs.Seen.{Seen}
 use Rattle.distinct.proofs.fields_distinct.Given as goal
 
 abbrev pub apart : List ℕ → ℕ → ℕ → Bool

@@ -1,7 +1,6 @@
 -- `distinct::marked` meets its contract.
 use mathlib.Core.Path.{ap}
 use lib.Bits.{bit_or}
-use borrow.Author.Rules.{rules}
 use Rattle.bits.proofs.BitLaws.{one_shifted}
 use Rattle.distinct.proofs.marked.Goals as goal
 

@@ -1,13 +1,13 @@
 -- `distinct::member_apart` meets its contract. The invariant: none of those passed agrees.
 use mathlib.Core.Path.{◌≡◌, sym, ◌∙◌, ap}
-use Prim.Native.Nat.{ℕ, ◌+◌, ◌-◌, ◌≤◌, ◌<◌}
-use mathlib.Core.Bool.{Bool, true, false, not}
+use Prim.Native.Nat.{ℕ, ◌+◌, ◌<◌}
+use mathlib.Core.Bool.{true, false, not}
 use mathlib.Core.List.{List}
 use native.Mathlib.Omega.{arith}
 use lib.Dec.{eqb}
 use borrow.Author.Tests.{eq-eqb, ne_eqb}
 use Rattle.definitions.specs.declared.Member.{Member}
-use Rattle.definitions.specs.Basics.{all, same}
+use Rattle.definitions.specs.Basics.{same}
 use Rattle.definitions.specs.Image.{value_count, member, member_name, members_agree}
 use Rattle.records.proofs.Room.{value_count-lt}
 use Rattle.records.proofs.Accepted.{members-name}

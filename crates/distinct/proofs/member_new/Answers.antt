@@ -5,7 +5,6 @@ use mathlib.Core.Bool.{true, not}
 use mathlib.Core.List.{List}
 use native.Mathlib.Omega.{arith}
 use lib.Dec.{eqb}
-use borrow.Author.Rules.{rules}
 use Rattle.definitions.specs.declared.Member.{Member}
 use Rattle.definitions.specs.Basics.{all, same}
 use Rattle.definitions.specs.Image.{member, member_name, members_agree}

@@ -1,20 +1,11 @@
 -- `distinct::members_distinct` meets its contract. The invariant: those passed are apart, and their marks and greatest number are kept.
-use mathlib.Core.Path.{◌≡◌, sym, ◌∙◌}
-use Prim.Native.Nat.{ℕ, ◌+◌, ◌-◌, ◌^◌, max, ◌≤◌, ◌<◌}
+use mathlib.Core.Path.{◌≡◌}
+use Prim.Native.Nat.{ℕ, ◌+◌, ◌-◌, ◌≤◌}
 use mathlib.Core.Bool.{Bool, true, not}
 use mathlib.Core.List.{List}
-use native.Mathlib.Omega.{arith}
-use lib.Bits.{bit_or}
-use borrow.Author.Tests.{not-true, not-false}
-use Rattle.definitions.specs.declared.Member.{Member}
 use Rattle.definitions.specs.Basics.{all}
-use Rattle.definitions.specs.Image.{value_count, member, member_name, members_agree, distinct}
-use Rattle.distinct.specs.Seen.{mark_of, Seen}
-use Rattle.records.proofs.Room.{value_count-lt}
-use Rattle.records.proofs.Accepted.{members-name}
-use Rattle.laws.proofs.Lists.{all-fails}
-use Rattle.laws.proofs.Tests.{all_start, all_more, all_done}
-use Rattle.distinct.proofs.Marks.{mark-lt, seen_start, seen_next}
+use Rattle.definitions.specs.Image.{member, member_name, members_agree}
+use Rattle.distinct.specs.Seen.{Seen}
 use Rattle.distinct.proofs.members_distinct.Given as goal
 
 abbrev pub apart : List ℕ → ℕ → ℕ → Bool

@@ -1,11 +1,6 @@
 -- `distinct::messages_distinct` meets its contract. The invariant: the runs passed are distinct.
-use mathlib.Core.Path.{◌≡◌, sym, ◌∙◌, ap}
-use Prim.Native.Nat.{ℕ, ◌-◌, ◌≤◌}
-use mathlib.Core.Bool.{Bool, true}
-use mathlib.Core.List.{List}
+use mathlib.Core.Path.{sym, ◌∙◌, ap}
 use native.Mathlib.Omega.{arith}
-use borrow.Author.Tests.{not-true, not-false}
-use Rattle.definitions.specs.Basics.{all}
 use Rattle.definitions.specs.Image.{message_count, field_count, message, fields_agree, distinct}
 use Rattle.records.proofs.Room.{header-room, message_count-lt}
 use Rattle.records.proofs.Accepted.{fields-run}

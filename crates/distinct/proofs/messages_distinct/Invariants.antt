@@ -1,17 +1,10 @@
 -- `distinct::messages_distinct` meets its contract. The invariant: the runs passed are distinct.
-use mathlib.Core.Path.{◌≡◌, sym, ◌∙◌, ap}
+use mathlib.Core.Path.{◌≡◌}
 use Prim.Native.Nat.{ℕ, ◌-◌, ◌≤◌}
 use mathlib.Core.Bool.{Bool, true}
 use mathlib.Core.List.{List}
-use native.Mathlib.Omega.{arith}
-use borrow.Author.Tests.{not-true, not-false}
 use Rattle.definitions.specs.Basics.{all}
-use Rattle.definitions.specs.Image.{message_count, field_count, message, fields_agree, distinct}
-use Rattle.records.proofs.Room.{header-room, message_count-lt}
-use Rattle.records.proofs.Accepted.{fields-run}
-use Rattle.records.proofs.Search.{run_fits}
-use Rattle.laws.proofs.Lists.{all-fails}
-use Rattle.laws.proofs.Tests.{all_start, all_more, all_done}
+use Rattle.definitions.specs.Image.{message, fields_agree, distinct}
 use Rattle.distinct.proofs.messages_distinct.Given as goal
 
 abbrev pub apart : List ℕ → ℕ → Bool

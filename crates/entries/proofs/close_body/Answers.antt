@@ -1,11 +1,10 @@
 -- `entries::close_body` meets its contract: a message is closed at once; an entry gets what it lacks, key first.
-use mathlib.Core.Path.{◌≡◌, sym, ◌∙◌, refl}
+use mathlib.Core.Path.{sym, ◌∙◌, refl}
 use mathlib.Core.List.{[]}
 use native.Mathlib.Omega.{arith}
 use Rattle.leaves.proofs.Returns.{done-answers}
 use Rattle.entries.proofs.Wants.{want-fits, want-field, entry-inside, nests-entry}
 use Rattle.entries.proofs.Joins.{closed-message, key-no, key-next, key-line, value_there, value-deep, value_made}
-use borrow.Author.Rules.{rules}
 use Rattle.entries.proofs.close_body.Goals as goal
 
 pub returns-then-w-ne-ENTRY : goal.returns-then-w-ne-ENTRY

@@ -2,7 +2,6 @@
 use mathlib.Core.Path.{sym, ◌∙◌, refl}
 use Rattle.definitions.specs.Scope.{find_in}
 use Rattle.entries.proofs.Wants.{within-entry, within-message, nests-message, find-key, find-value, find-neither}
-use borrow.Author.Rules.{rules}
 use Rattle.entries.proofs.find_in.Goals as goal
 
 pub find_field-requires : goal.find_field-requires

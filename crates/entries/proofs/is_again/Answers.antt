@@ -1,5 +1,4 @@
 -- `entries::is_again` meets its contract.
-use mathlib.Core.Path.{sym}
 use borrow.Author.Tests.{eq-eqb, ne_eqb}
 use Rattle.definitions.specs.Reading.{again}
 use Rattle.entries.proofs.Wants.{within-entry, within-message}

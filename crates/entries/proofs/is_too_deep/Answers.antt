@@ -1,5 +1,4 @@
 -- `entries::is_too_deep` meets its contract.
-use mathlib.Core.Path.{refl}
 use Rattle.entries.proofs.is_too_deep.Goals as goal
 
 pub returns-then-deep : goal.returns-then-deep

@@ -1,10 +1,9 @@
 -- `entries::put_default` meets its contract: an empty run, the enum's first value, or 0.
-use mathlib.Core.Path.{◌≡◌, sym, ◌∙◌, refl}
+use mathlib.Core.Path.{sym, ◌∙◌, refl}
 use native.Mathlib.Omega.{arith}
 use Rattle.records.proofs.Accepted.{known-placed, enum-inside, enum-filled}
 use Rattle.leaves.proofs.Returns.{answers_by, empty-run}
 use Rattle.leaves.proofs.Steps.{default-run, default-enum, default-zero}
-use borrow.Author.Rules.{rules}
 use Rattle.entries.proofs.put_default.Goals as goal
 
 pub overflow_mul-v : goal.overflow_mul-v

@@ -1,8 +1,7 @@
 -- `entries::put_missing` meets its contract.
 use mathlib.Core.List.{[]}
-use mathlib.Core.Path.{◌≡◌, sym, ◌∙◌, refl}
+use mathlib.Core.Path.{refl}
 use Rattle.leaves.proofs.Returns.{done-answers, answers_by}
-use borrow.Author.Rules.{rules}
 use Rattle.entries.proofs.put_missing.Goals as goal
 
 pub returns-then-there : goal.returns-then-there

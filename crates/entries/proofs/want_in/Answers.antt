@@ -1,7 +1,4 @@
 -- `entries::want_in` meets its contract: an entry's key and value, a map field, any other field.
-use mathlib.Core.Path.{sym, ◌∙◌, refl, ap}
-use borrow.Author.Tests.{eq-eqb, ne_eqb}
-use Rattle.definitions.specs.Scope.{want}
 use Rattle.records.proofs.Accepted.{known-placed}
 use Rattle.entries.proofs.Wants.{within-entry, within-message, inside-below, want-key, want-value, want-map, want-plain, nests-message}
 use Rattle.entries.proofs.want_in.Goals as goal

@@ -5,9 +5,8 @@ use mathlib.Core.Bool.{Bool, true, false}
 use mathlib.Core.List.{List}
 use native.Mathlib.Omega.{arith}
 use lib.Dec.{leb, eqb}
-use lib.ListN.{length, drop}
-use borrow.Author.Rules.{rules}
-use borrow.Author.Tests.{le-leb, lt-leb, not-true, not-false}
+use lib.ListN.{drop}
+use borrow.Author.Tests.{le-leb, lt-leb}
 use Rattle.definitions.specs.declared.Field.{Field}
 use Rattle.definitions.specs.Basics.{between}
 use Rattle.definitions.specs.Refusals.{most_number}

@@ -1,14 +1,9 @@
 -- `good_records::fields_good` meets its contract. The invariant: the records passed are good.
-use mathlib.Core.Path.{◌≡◌, sym, ◌∙◌}
+use mathlib.Core.Path.{◌≡◌}
 use Prim.Native.Nat.{◌-◌, ◌≤◌}
 use mathlib.Core.Bool.{true}
-use native.Mathlib.Omega.{arith}
-use borrow.Author.Tests.{not-true, not-false}
 use Rattle.definitions.specs.Basics.{all}
-use Rattle.definitions.specs.Image.{field_count, field_good}
-use Rattle.records.proofs.Room.{header-room, field_count-lt}
-use Rattle.laws.proofs.Lists.{all-fails}
-use Rattle.laws.proofs.Tests.{all_start, all_more, all_done}
+use Rattle.definitions.specs.Image.{field_good}
 use Rattle.good_records.proofs.fields_good.Given as goal
 
 abbrev pub invariant-loop-i : goal.invariant-loop-i

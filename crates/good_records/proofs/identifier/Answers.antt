@@ -1,11 +1,10 @@
 -- `good_records::identifier` meets its contract. The invariant: what is left decides.
 use mathlib.Core.Path.{◌≡◌, refl, sym, ◌∙◌}
-use Prim.Native.Nat.{ℕ, ◌-◌, ◌<◌}
+use Prim.Native.Nat.{ℕ, ◌<◌}
 use mathlib.Core.Bool.{true, false, ◌&&◌}
 use mathlib.Core.List.{List, [], ◌∷◌}
 use native.Mathlib.Omega.{arith}
 use lib.ListN.{length, get_or, drop}
-use borrow.Author.Tests.{not-true, not-false}
 use Rattle.definitions.specs.Basics.{each}
 use Rattle.definitions.specs.Image.{letter, word, identifier}
 use Rattle.laws.proofs.Tests.{each_next, each-fails, each-end}

@@ -1,14 +1,9 @@
 -- `good_records::identifier` meets its contract. The invariant: what is left decides.
-use mathlib.Core.Path.{◌≡◌, refl, sym, ◌∙◌}
-use Prim.Native.Nat.{ℕ, ◌-◌, ◌<◌}
-use mathlib.Core.Bool.{true, false, ◌&&◌}
-use mathlib.Core.List.{List, [], ◌∷◌}
-use native.Mathlib.Omega.{arith}
-use lib.ListN.{length, get_or, drop}
-use borrow.Author.Tests.{not-true, not-false}
+use mathlib.Core.Path.{◌≡◌}
+use Prim.Native.Nat.{◌-◌}
+use lib.ListN.{length, drop}
 use Rattle.definitions.specs.Basics.{each}
-use Rattle.definitions.specs.Image.{letter, word, identifier}
-use Rattle.laws.proofs.Tests.{each_next, each-fails, each-end}
+use Rattle.definitions.specs.Image.{word, identifier}
 use Rattle.good_records.proofs.identifier.Given as goal
 
 abbrev pub invariant-loop-i : goal.invariant-loop-i

@@ -5,9 +5,7 @@ use mathlib.Core.Bool.{Bool, true, false}
 use mathlib.Core.List.{List}
 use native.Mathlib.Omega.{arith}
 use lib.Dec.{eqb}
-use lib.ListN.{length, drop}
-use borrow.Author.Rules.{rules}
-use borrow.Author.Tests.{not-true, not-false}
+use lib.ListN.{drop}
 use Rattle.definitions.specs.declared.Member.{Member}
 use Rattle.definitions.specs.Image.{member, member_at, member_zero, name_good, member_good}
 use Rattle.records.specs.declared.Layout.{Layout}

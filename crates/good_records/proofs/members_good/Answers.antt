@@ -1,10 +1,6 @@
 -- `good_records::members_good` meets its contract. The invariant: the records passed are good.
-use mathlib.Core.Path.{◌≡◌, sym, ◌∙◌}
-use Prim.Native.Nat.{◌-◌, ◌≤◌}
-use mathlib.Core.Bool.{true}
+use mathlib.Core.Path.{sym, ◌∙◌}
 use native.Mathlib.Omega.{arith}
-use borrow.Author.Tests.{not-true, not-false}
-use Rattle.definitions.specs.Basics.{all}
 use Rattle.definitions.specs.Image.{value_count, member_good}
 use Rattle.records.proofs.Room.{header-room, value_count-lt}
 use Rattle.laws.proofs.Lists.{all-fails}

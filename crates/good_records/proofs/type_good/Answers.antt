@@ -1,7 +1,6 @@
 -- `good_records::type_good` meets its contract: each answer by the type.
 use mathlib.Core.Path.{ap}
 use lib.Dec.{ltb}
-use borrow.Author.Rules.{rules}
 use borrow.Author.Tests.{le-leb, lt-leb, eq-eqb, ne_eqb}
 use Rattle.definitions.specs.Image.{type_good}
 use Rattle.good_records.proofs.type_good.Goals as goal

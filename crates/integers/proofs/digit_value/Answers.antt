@@ -1,5 +1,4 @@
 -- `integers::digit_value` meets its contract: each `return` rewrites with the tests that led there.
-use borrow.Author.Rules.{rules}
 use borrow.Author.Tests.{le-leb, lt-leb}
 use native.Mathlib.Omega.{arith}
 use Rattle.definitions.specs.Integers.{digit_value}

@@ -1,5 +1,4 @@
 -- `integers::hex_ahead` meets its contract: nothing, one byte, or two and more stand there.
-use borrow.Author.Rules.{rules}
 use mathlib.Core.Path.{sym, ◌∙◌}
 use native.Mathlib.Omega.{arith}
 use Rattle.integers.proofs.Digits.{ahead-end, ahead-one, ahead-x, ahead-X, ahead-other}

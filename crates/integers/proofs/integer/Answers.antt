@@ -1,5 +1,4 @@
 -- `integers::integer` meets its contract: what 64 bits hold is compared with the greatest magnitude, and takes its sign.
-use borrow.Author.Rules.{rules}
 use mathlib.Core.Path.{sym, ◌∙◌}
 use native.Mathlib.Omega.{arith}
 use Rattle.integers.proofs.Digits.{narrow-over, narrow-past, narrow-worth}

@@ -1,5 +1,4 @@
 -- `integers::magnitude` meets its contract: the definition's rule picks the base.
-use borrow.Author.Rules.{rules}
 use mathlib.Core.Path.{sym, ◌∙◌, ap}
 use mathlib.Core.Bool.{false}
 use Rattle.definitions.specs.Integers.{signed}

@@ -1,5 +1,4 @@
 -- `integers::passes` meets its contract: what is sure fits with the greatest digit, and the rest is divided.
-use borrow.Author.Rules.{rules}
 use borrow.Author.Tests.{lt-ltb, le-ltb}
 use mathlib.Core.Path.{sym}
 use native.Mathlib.Omega.{arith}

@@ -1,5 +1,4 @@
 -- `integers::signed` meets its contract: 0 is its own complement.
-use borrow.Author.Rules.{rules}
 use native.Mathlib.Omega.{arith}
 use mathlib.Core.Path.{sym}
 use Rattle.integers.proofs.Digits.{unsigned, complement-zero, complement}

@@ -1,11 +1,11 @@
 -- `integers::worth` meets its contract. The invariant: what is read so far, with the digits left, is worth the whole, and fits.
 use mathlib.Core.Path.{refl, sym, ◌∙◌}
-use Prim.Native.Nat.{◌+◌, ◌-◌, ◌*◌}
+use Prim.Native.Nat.{◌+◌, ◌*◌}
 use native.Mathlib.Omega.{arith}
-use lib.ListN.{length, get_or}
+use lib.ListN.{get_or}
 use borrow.Author.Tests.{ltb-true, ltb-false}
 use Rattle.integers.specs.Values.{greatest}
-use Rattle.integers.proofs.Digits.{Reading, reading-start, reading-on, reading-over, reading-done, digit_value-le}
+use Rattle.integers.proofs.Digits.{reading-start, reading-on, reading-over, reading-done, digit_value-le}
 use Rattle.integers.proofs.worth.Goals as goal
 
 pub loop-i-init : goal.loop-i-init

@@ -1,4 +1,3 @@
-use borrow.Author.Rules.{rules}
 use Rattle.leaves.proofs.bad.Goals as goal
 
 pub returns-in-Bad : goal.returns-in-Bad

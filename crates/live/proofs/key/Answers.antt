@@ -2,7 +2,6 @@
 use native.Mathlib.Omega.{arith}
 use mathlib.Core.Path.{◌∙◌}
 use Rattle.live.proofs.Entries.{entry_first, entry-second, key-first, key-second}
-use borrow.Author.Rules.{rules}
 use Rattle.live.proofs.key.Goals as goal
 
 pub overflow_add-i : goal.overflow_add-i

@@ -3,7 +3,6 @@ use mathlib.Core.Path.{sym, ap₂, ◌∙◌}
 use lib.Dec.{eqb}
 use Rattle.definitions.specs.Basics.{same}
 use Rattle.live.proofs.Lives.{same_runs, same-run-other, same-other-run, same-inside, same-number-inside, same_numbers}
-use borrow.Author.Rules.{rules}
 use Rattle.live.proofs.same_value.Goals as goal
 
 pub run-requires : goal.run-requires

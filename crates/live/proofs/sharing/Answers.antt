@@ -4,7 +4,6 @@ use Rattle.records.proofs.Accepted.{known-placed}
 use Rattle.nodes.proofs.Scopes.{inside-message, inside-small}
 use Rattle.validity.proofs.Checks.{fits-known}
 use Rattle.live.proofs.Lives.{sharing-entry, sharing-unknown, sharing-repeated, sharing-map, sharing-single}
-use borrow.Author.Rules.{rules}
 use Rattle.live.proofs.sharing.Goals as goal
 
 pub returns-then-w-eq-ENTRY : goal.returns-then-w-eq-ENTRY

@@ -1,14 +1,13 @@
 -- `lookup::find_member` meets its contract: what is left of the run finds what the whole run finds.
 use mathlib.Core.Path.{sym, ◌∙◌, ap}
-use Prim.Native.Nat.{ℕ, ◌-◌, ◌<◌}
-use mathlib.Core.Bool.{Bool}
+use Prim.Native.Nat.{ℕ, ◌<◌}
 use mathlib.Core.List.{List}
 use native.Mathlib.Omega.{arith}
 use Rattle.definitions.specs.Basics.{same}
-use Rattle.definitions.specs.Image.{enumeration, value_count, member_name, find_member}
+use Rattle.definitions.specs.Image.{enumeration, value_count, find_member}
 use Rattle.records.proofs.Room.{value_count-lt}
 use Rattle.records.proofs.Accepted.{known-placed, enum-inside, member-has}
-use Rattle.records.proofs.Search.{Left, left-run, run_fits, left-next, left-hit, left-none}
+use Rattle.records.proofs.Search.{left-run, run_fits, left-next, left-hit, left-none}
 use Rattle.lookup.proofs.find_member.Goals as goal
 use Rattle.lookup.proofs.find_member.Invariants.{named}
 

@@ -1,14 +1,10 @@
 -- `lookup::find_member` meets its contract: what is left of the run finds what the whole run finds.
-use mathlib.Core.Path.{sym, ◌∙◌, ap}
-use Prim.Native.Nat.{ℕ, ◌-◌, ◌<◌}
+use Prim.Native.Nat.{ℕ, ◌-◌}
 use mathlib.Core.Bool.{Bool}
 use mathlib.Core.List.{List}
-use native.Mathlib.Omega.{arith}
 use Rattle.definitions.specs.Basics.{same}
-use Rattle.definitions.specs.Image.{enumeration, value_count, member_name, find_member}
-use Rattle.records.proofs.Room.{value_count-lt}
-use Rattle.records.proofs.Accepted.{known-placed, enum-inside, member-has}
-use Rattle.records.proofs.Search.{Left, left-run, run_fits, left-next, left-hit, left-none}
+use Rattle.definitions.specs.Image.{value_count, member_name, find_member}
+use Rattle.records.proofs.Search.{Left}
 use Rattle.lookup.proofs.find_member.Given as goal
 
 abbrev pub named : List ℕ → List ℕ → ℕ → Bool

@@ -1,16 +1,14 @@
 -- `lookup::find_number` meets its contract: what is left of the run finds what the whole run finds.
 use mathlib.Core.Path.{sym, ◌∙◌, ap}
-use Prim.Native.Nat.{ℕ, ◌-◌, ◌<◌}
-use mathlib.Core.Bool.{Bool}
-use mathlib.Core.List.{List}
+use Prim.Native.Nat.{◌<◌}
 use native.Mathlib.Omega.{arith}
 use lib.Dec.{eqb}
 use borrow.Author.Tests.{eq-eqb, ne_eqb}
 use Rattle.definitions.specs.declared.Member.{Member}
-use Rattle.definitions.specs.Image.{enumeration, value_count, member, find_number}
+use Rattle.definitions.specs.Image.{enumeration, value_count, find_number}
 use Rattle.records.proofs.Room.{value_count-lt}
 use Rattle.records.proofs.Accepted.{known-placed, enum-inside}
-use Rattle.records.proofs.Search.{Left, left-run, run_fits, left-next, left-hit, left-none}
+use Rattle.records.proofs.Search.{left-run, run_fits, left-next, left-hit, left-none}
 use Rattle.lookup.proofs.find_number.Goals as goal
 use Rattle.lookup.proofs.find_number.Invariants.{numbered}
 

@@ -5,11 +5,11 @@ use mathlib.Core.Bool.{Bool}
 use mathlib.Core.List.{List}
 use native.Mathlib.Omega.{arith}
 use Rattle.definitions.specs.Basics.{same, find}
-use Rattle.definitions.specs.Image.{field_count, field_name}
+use Rattle.definitions.specs.Image.{field_count}
 use Rattle.records.specs.Known.{found_of}
 use Rattle.records.proofs.Room.{field_count-lt}
 use Rattle.records.proofs.Accepted.{known-placed, field-has}
-use Rattle.records.proofs.Search.{Left, left-next, left-hit, left-none}
+use Rattle.records.proofs.Search.{left-next, left-hit, left-none}
 use Rattle.lookup.proofs.search_fields.Goals as goal
 use Rattle.lookup.proofs.search_fields.Invariants.{named}
 

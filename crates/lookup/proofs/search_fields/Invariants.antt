@@ -1,15 +1,10 @@
 -- `lookup::search_fields` meets its contract: what is left of the run finds what the whole run finds.
-use mathlib.Core.Path.{◌≡◌, refl, sym, ◌∙◌, ap}
-use Prim.Native.Nat.{ℕ, ◌-◌, ◌+◌, ◌<◌}
+use Prim.Native.Nat.{ℕ, ◌-◌}
 use mathlib.Core.Bool.{Bool}
 use mathlib.Core.List.{List}
-use native.Mathlib.Omega.{arith}
 use Rattle.definitions.specs.Basics.{same, find}
 use Rattle.definitions.specs.Image.{field_count, field_name}
-use Rattle.records.specs.Known.{found_of}
-use Rattle.records.proofs.Room.{field_count-lt}
-use Rattle.records.proofs.Accepted.{known-placed, field-has}
-use Rattle.records.proofs.Search.{Left, left-next, left-hit, left-none}
+use Rattle.records.proofs.Search.{Left}
 use Rattle.lookup.proofs.search_fields.Given as goal
 
 abbrev pub named : List ℕ → List ℕ → ℕ → Bool

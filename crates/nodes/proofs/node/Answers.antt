@@ -1,6 +1,5 @@
 -- `nodes::node` meets its contract: five reads in a row.
 use Rattle.nodes.proofs.Words.{node-words}
-use borrow.Author.Rules.{rules}
 use Rattle.nodes.proofs.node.Goals as goal
 
 pub returns : goal.returns

@@ -1,7 +1,6 @@
 -- `nodes::number` meets its contract.
 use mathlib.Core.Path.{refl}
 use Rattle.definitions.specs.Nodes.{number_of}
-use borrow.Author.Rules.{rules}
 use Rattle.nodes.proofs.number.Goals as goal
 
 pub returns : goal.returns

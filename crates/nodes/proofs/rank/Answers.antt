@@ -1,7 +1,6 @@
 -- `nodes::rank` meets its contract.
 use mathlib.Core.Path.{sym, ◌∙◌}
 use Rattle.nodes.proofs.Ranks.{rank-known, rank-unknown}
-use borrow.Author.Rules.{rules}
 use Rattle.nodes.proofs.rank.Goals as goal
 
 pub returns-then-is_unknown : goal.returns-then-is_unknown

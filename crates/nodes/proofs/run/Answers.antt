@@ -1,6 +1,5 @@
 -- `nodes::run` meets its contract.
 use Rattle.nodes.proofs.Words.{run-part}
-use borrow.Author.Rules.{rules}
 use Rattle.nodes.proofs.run.Goals as goal
 
 pub returns : goal.returns

@@ -3,7 +3,6 @@ use mathlib.Core.Path.{sym, ap, ◌∙◌}
 use Rattle.definitions.specs.Scope.{want_in, want_of}
 use Rattle.records.proofs.Accepted.{known-placed}
 use Rattle.nodes.proofs.Scopes.{there-entry, inside-message, want_entry, want-message}
-use borrow.Author.Rules.{rules}
 use Rattle.nodes.proofs.want.Goals as goal
 
 pub field-requires : goal.field-requires

@@ -2,7 +2,6 @@
 use mathlib.Core.Path.{sym, ◌∙◌, refl}
 use Rattle.leaves.proofs.Returns.{no-answers, answers_by}
 use Rattle.leaves.proofs.Steps.{integer-other, integer-over, integer-worth}
-use borrow.Author.Rules.{rules}
 use Rattle.numbers.proofs.read_integer.Goals as goal
 
 pub returns-then-t-ne-INTEGER : goal.returns-then-t-ne-INTEGER

@@ -1,10 +1,8 @@
 -- `numbers::read_signed` meets its contract: an integer's token at once, or a minus and then an integer's.
-use mathlib.Core.Path.{sym, ◌∙◌, refl}
-use native.Mathlib.Omega.{arith}
+use mathlib.Core.Path.{◌∙◌, refl}
 use Rattle.laws.proofs.Reach.{reach}
 use Rattle.leaves.proofs.Returns.{no-answers, answers_by, answers-from}
 use Rattle.leaves.proofs.Steps.{scanned, scanned-line, fair-located, after-located, scanned-bad, bad-is, signed-bad, signed-plain, signed-minus, negated-bad, negated-on, reached}
-use borrow.Author.Rules.{rules}
 use Rattle.numbers.proofs.read_signed.Goals as goal
 
 pub next_from-st-requires : goal.next_from-st-requires

@@ -1,8 +1,7 @@
 -- `numbers::read_unsigned` meets its contract: a bad token, or an integer's.
-use mathlib.Core.Path.{sym, ◌∙◌, refl}
+use mathlib.Core.Path.{◌∙◌, refl}
 use Rattle.leaves.proofs.Returns.{no-answers, answers_by}
 use Rattle.leaves.proofs.Steps.{scanned, scanned-line, fair-located, scanned-bad, bad-is, unsigned-bad, unsigned-on, reached}
-use borrow.Author.Rules.{rules}
 use Rattle.numbers.proofs.read_unsigned.Goals as goal
 
 pub next_from-st-requires : goal.next_from-st-requires

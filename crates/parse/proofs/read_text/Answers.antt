@@ -1,8 +1,6 @@
 -- `parse::read_text` meets its contract: the pass over empty parts counts, and the pass over the table and the pool stores.
-use mathlib.Core.Path.{◌≡◌, refl, sym, ◌∙◌}
 use native.Mathlib.Omega.{arith}
 use Rattle.parse.proofs.Wholes.{empty-part, ends-no, ends-nodes, ends-bytes, ends-made, counted-node}
-use borrow.Author.Rules.{rules}
 use Rattle.parse.proofs.read_text.Goals as goal
 
 pub read_root-counted-requires : goal.read_root-counted-requires

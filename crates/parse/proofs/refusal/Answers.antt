@@ -1,5 +1,4 @@
 -- `parse::refusal` meets its contract.
-use borrow.Author.Rules.{rules}
 use Rattle.parse.proofs.refusal.Goals as goal
 
 pub returns-in-No : goal.returns-in-No

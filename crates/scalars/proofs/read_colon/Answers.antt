@@ -1,8 +1,7 @@
 -- `scalars::read_colon` meets its contract: a bad token, no colon, a value.
-use mathlib.Core.Path.{◌≡◌, sym, ◌∙◌, refl}
+use mathlib.Core.Path.{refl}
 use Rattle.leaves.proofs.Returns.{no-answers, answers_by, answers-from}
-use Rattle.leaves.proofs.Steps.{fair-located, scanned-line, scanned, scanned-bad, bad-is, other-is, colon-bad, colon-other, colon-on, moved-fair}
-use borrow.Author.Rules.{rules}
+use Rattle.leaves.proofs.Steps.{fair-located, scanned-line, scanned, scanned-bad, bad-is, colon-bad, colon-other, colon-on, moved-fair}
 use Rattle.scalars.proofs.read_colon.Goals as goal
 
 pub colon_from-st-requires : goal.colon_from-st-requires

@@ -1,7 +1,6 @@
 -- `scalars::read_scalar` meets its contract: one reader for each kind of value.
 use Rattle.leaves.proofs.Returns.{answers_by}
 use Rattle.leaves.proofs.Steps.{scalar_signed, scalar_unsigned, scalar-bool, scalar-enum, scalar-string}
-use borrow.Author.Rules.{rules}
 use Rattle.scalars.proofs.read_scalar.Goals as goal
 
 pub read_signed-requires : goal.read_signed-requires

@@ -3,7 +3,6 @@ use mathlib.Core.Path.{◌≡◌, refl, sym, ◌∙◌}
 use Prim.Native.Nat.{ℕ}
 use mathlib.Core.Bool.{true, false}
 use mathlib.Core.List.{List}
-use borrow.Author.Tests.{not-true, not-false}
 use Rattle.definitions.specs.Image.{header_good, records_good, accepted}
 use Rattle.records.proofs.Accepted.{header-parts}
 use Rattle.schema.proofs.check.Goals as goal

@@ -1,14 +1,10 @@
 -- `schema::enums_filled` meets its contract. The invariant: the enums passed have values.
-use mathlib.Core.Path.{◌≡◌, sym, ◌∙◌, ap}
-use Prim.Native.Nat.{ℕ, ◌-◌, ◌≤◌}
-use mathlib.Core.Bool.{Bool, true}
-use mathlib.Core.List.{List}
+use mathlib.Core.Path.{sym, ◌∙◌, ap}
 use native.Mathlib.Omega.{arith}
 use lib.Dec.{leb}
 use borrow.Author.Tests.{le-leb, lt-leb}
 use Rattle.definitions.specs.declared.Span.{Span}
-use Rattle.definitions.specs.Basics.{all}
-use Rattle.definitions.specs.Image.{enum_count, enumeration}
+use Rattle.definitions.specs.Image.{enum_count}
 use Rattle.records.proofs.Room.{header-room, enum_count-lt}
 use Rattle.laws.proofs.Lists.{all-fails}
 use Rattle.laws.proofs.Tests.{all_start, all_more, all_done}

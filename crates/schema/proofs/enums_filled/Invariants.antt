@@ -1,17 +1,11 @@
 -- `schema::enums_filled` meets its contract. The invariant: the enums passed have values.
-use mathlib.Core.Path.{◌≡◌, sym, ◌∙◌, ap}
+use mathlib.Core.Path.{◌≡◌}
 use Prim.Native.Nat.{ℕ, ◌-◌, ◌≤◌}
 use mathlib.Core.Bool.{Bool, true}
 use mathlib.Core.List.{List}
-use native.Mathlib.Omega.{arith}
 use lib.Dec.{leb}
-use borrow.Author.Tests.{le-leb, lt-leb}
-use Rattle.definitions.specs.declared.Span.{Span}
 use Rattle.definitions.specs.Basics.{all}
-use Rattle.definitions.specs.Image.{enum_count, enumeration}
-use Rattle.records.proofs.Room.{header-room, enum_count-lt}
-use Rattle.laws.proofs.Lists.{all-fails}
-use Rattle.laws.proofs.Tests.{all_start, all_more, all_done}
+use Rattle.definitions.specs.Image.{enumeration}
 use Rattle.schema.proofs.enums_filled.Given as goal
 
 abbrev pub filled : List ℕ → ℕ → Bool

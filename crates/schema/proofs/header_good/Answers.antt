@@ -6,7 +6,6 @@ use mathlib.Core.List.{List}
 use native.Mathlib.Omega.{arith}
 use lib.Dec.{eqb}
 use lib.ListN.{length}
-use borrow.Author.Rules.{rules}
 use borrow.Author.Tests.{le-leb, lt-leb, eq-eqb, ne_eqb}
 use Rattle.definitions.specs.Bits.{bits}
 use Rattle.definitions.specs.Image.{form, message_count, name_count, messages_at, fields_at, enums_at, values_at, names_at, image_length, header_good}

@@ -6,7 +6,6 @@ use mathlib.Core.List.{List}
 use native.Mathlib.Omega.{arith}
 use lib.Dec.{leb}
 use lib.ListN.{drop}
-use borrow.Author.Tests.{not-true, not-false}
 use Rattle.definitions.specs.Basics.{all}
 use Rattle.definitions.specs.Image.{span_of, message_count, field_count, enum_count, value_count, messages_at, enums_at, message, enumeration, running, field_good, member_good, distinct, fields_agree, members_agree, records_good}
 use Rattle.records.proofs.Room.{message_count-lt, enum_count-lt, header-room, messages-room, enums-start, enums-room}

@@ -1,17 +1,14 @@
 -- `schema::runs_good` meets its contract. The invariant: the runs passed begin at running totals, the last of which is `total`.
-use mathlib.Core.Path.{◌≡◌, refl, sym, ◌∙◌, ap}
-use Prim.Native.Nat.{ℕ, ◌+◌, ◌*◌, ◌-◌, ◌≤◌, ◌<◌}
+use mathlib.Core.Path.{◌≡◌}
+use Prim.Native.Nat.{ℕ, ◌+◌, ◌*◌, ◌-◌, ◌≤◌}
 use mathlib.Core.Bool.{true}
 use mathlib.Core.List.{List}
-use native.Mathlib.Omega.{arith}
 use lib.ListN.{drop}
-use borrow.Author.Tests.{eq-eqb}
 use Rattle.definitions.specs.declared.Span.{Span}
 use Rattle.definitions.specs.Basics.{all}
 use Rattle.definitions.specs.Image as spec
 use Rattle.definitions.specs.Image.{span_of}
-use Rattle.bits.proofs.BitLaws.{bits_below}
-use Rattle.laws.proofs.Tests.{begins, all_start, all_more, total-step, running-fails, running-done}
+use Rattle.laws.proofs.Tests.{begins}
 use Rattle.schema.proofs.runs_good.Given as goal
 
 -- the run at an index

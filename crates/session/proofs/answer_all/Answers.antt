@@ -1,5 +1,4 @@
 -- `session::answer_all` is safe and ends. The measure is the turns that are left. Assumes nothing.
-use borrow.Author.Rules.{rules}
 use native.Mathlib.Omega.{arith}
 use Rattle.session.proofs.answer_all.Goals as goal
 

@@ -1,5 +1,4 @@
 -- `stores::put` meets its contract: past the end nothing is stored.
-use borrow.Author.Rules.{rules}
 use mathlib.Core.Path.{sym}
 use lib.Seq.{set_out}
 use Rattle.stores.proofs.put.Goals as goal

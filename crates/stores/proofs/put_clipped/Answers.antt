@@ -1,8 +1,5 @@
 -- `stores::put_clipped` meets its contract. The invariant: the bytes passed are stored.
-use borrow.Author.Rules.{rules}
-use Prim.Native.Nat.{◌-◌}
-use lib.ListN.{length}
-use Rattle.stores.proofs.Stores.{Stored, stored-start, stored-length, stored_on, stored-all}
+use Rattle.stores.proofs.Stores.{stored-start, stored-length, stored_on, stored-all}
 use Rattle.stores.proofs.put_clipped.Goals as goal
 
 pub loop-i-init : goal.loop-i-init

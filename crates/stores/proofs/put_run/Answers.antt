@@ -1,5 +1,4 @@
 -- `stores::put_run` meets its contract: nothing, a part or all of it is stored.
-use borrow.Author.Rules.{rules}
 use mathlib.Core.Path.{sym}
 use Rattle.laws.proofs.Stores.{sets-out}
 use Rattle.stores.proofs.put_run.Goals as goal

@@ -1,10 +1,7 @@
 -- `stores::put_whole` meets its contract. The invariant: the bytes passed are stored.
-use borrow.Author.Rules.{rules}
-use mathlib.Core.Path.{refl}
 use Prim.Native.Nat.{◌-◌}
-use native.Mathlib.Omega.{arith}
 use lib.ListN.{length}
-use Rattle.stores.proofs.Stores.{Stored, stored-start, stored-length, stored_on, stored-all}
+use Rattle.stores.proofs.Stores.{Stored}
 use Rattle.stores.proofs.put_whole.Given as goal
 
 abbrev pub invariant-loop-i : goal.invariant-loop-i

@@ -1,13 +1,8 @@
 -- `strings::decode` meets its contract. The invariant: what is decoded and stored so far, and the rest to decode, make the whole,
 -- whatever the pool held before the plain bytes were put there.
-use borrow.Author.Rules.{rules}
-use mathlib.Core.Path.{◌≡◌, sym, ◌∙◌}
-use mathlib.Core.List.{List}
-use Prim.Native.Nat.{ℕ, ◌-◌}
+use mathlib.Core.Path.{sym, ◌∙◌}
 use native.Mathlib.Omega.{arith}
-use lib.ListN.{length, take}
-use lib.Seq.{sets}
-use Rattle.strings.proofs.Pieces.{Turn, plain-within, plain-count, turn-start, turn-length, turn-done, turn-bad, turn-takes, turn_on}
+use Rattle.strings.proofs.Pieces.{plain-within, plain-count, turn-start, turn-length, turn-done, turn-bad, turn-takes, turn_on}
 use Rattle.strings.proofs.decode.Goals as goal
 
 pub slice_bounds-put_run-end : goal.slice_bounds-put_run-end

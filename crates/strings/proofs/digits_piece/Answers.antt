@@ -1,5 +1,4 @@
 -- `strings::digits_piece` meets its contract: what 64 bits do not hold, and what a byte does not, is refused.
-use borrow.Author.Rules.{rules}
 use mathlib.Core.Path.{sym, ◌∙◌}
 use Rattle.strings.proofs.Escaping.{digits-over, digits-past, digits_in}
 use Rattle.strings.proofs.digits_piece.Goals as goal

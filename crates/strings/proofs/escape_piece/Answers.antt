@@ -1,5 +1,4 @@
 -- `strings::escape_piece` meets its contract: each `return` has its law.
-use borrow.Author.Rules.{rules}
 use mathlib.Core.Path.{sym, ◌∙◌, ap}
 use Prim.Native.Nat.{◌+◌}
 use native.Mathlib.Omega.{arith}

@@ -1,5 +1,4 @@
 -- `strings::first_piece` meets its contract: an escape after a backslash, else the byte.
-use borrow.Author.Rules.{rules}
 use mathlib.Core.Path.{sym, ◌∙◌, ap}
 use Rattle.strings.specs.Values.{told}
 use Rattle.strings.proofs.Escaping.{first-escape, first_plain}

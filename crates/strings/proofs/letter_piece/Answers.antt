@@ -1,7 +1,5 @@
 -- `strings::letter_piece` meets its contract. The invariant: the letter's row is found in the rows that are left, or not at all.
-use Prim.Native.Nat.{◌-◌}
-use native.Mathlib.Omega.{arith}
-use Rattle.strings.proofs.Escaping.{Searching, searching-start, searching-none, searching-on, searching-found}
+use Rattle.strings.proofs.Escaping.{searching-start, searching-none, searching-on, searching-found}
 use Rattle.strings.proofs.letter_piece.Goals as goal
 
 pub loop-i-init : goal.loop-i-init

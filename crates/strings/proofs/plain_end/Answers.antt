@@ -1,11 +1,7 @@
 -- `strings::plain_end` meets its contract. The invariant: the plain bytes end from `i` on where they end from the start.
-use mathlib.Core.Path.{◌≡◌, ◌∙◌}
-use Prim.Native.Nat.{◌+◌, ◌-◌}
-use native.Mathlib.Omega.{arith}
+use mathlib.Core.Path.{◌∙◌}
 use native.Mathlib.Nat.{zero-add}
-use lib.ListN.{length, drop}
 use borrow.Author.Tests.{le-leb, lt-leb, eq-eqb, ne_eqb}
-use Rattle.definitions.specs.Integers.{front}
 use Rattle.strings.specs.Values.{plain}
 use Rattle.laws.proofs.Tests.{front-on, front-stop, front-end}
 use Rattle.strings.proofs.plain_end.Goals as goal

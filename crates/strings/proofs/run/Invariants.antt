@@ -1,11 +1,8 @@
 -- `strings::run` meets its contract. The invariant: what is counted so far, with the run that is left, is the whole run.
-use mathlib.Core.Path.{sym, ◌∙◌}
 use Prim.Native.Nat.{◌-◌}
-use native.Mathlib.Omega.{arith}
 use lib.ListN.{length}
-use borrow.Author.Tests.{not-true, not-false}
 use Rattle.strings.specs.Values.{digit_in}
-use Rattle.strings.proofs.Escaping.{Counting, counting-start, counting-full, counting-done, counting-stop, counting-on}
+use Rattle.strings.proofs.Escaping.{Counting}
 use Rattle.strings.proofs.run.Given as goal
 
 abbrev pub invariant-loop-i : goal.invariant-loop-i

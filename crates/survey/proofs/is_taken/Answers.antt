@@ -1,6 +1,5 @@
 -- `survey::is_taken` meets its contract.
 use mathlib.Core.Path.{sym, ◌∙◌}
-use borrow.Author.Tests.{not-true, not-false}
 use Rattle.records.proofs.Accepted.{accepted-header}
 use Rattle.survey.proofs.Tables.{taken-schema, taken-root, taken-table}
 use Rattle.survey.proofs.is_taken.Goals as goal

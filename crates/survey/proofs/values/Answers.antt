@@ -1,8 +1,6 @@
 -- `survey::values` meets its contract: all that lies below the root of a table that is taken.
 use native.Mathlib.Omega.{arith}
 use mathlib.Core.Path.{refl, sym, ap, ◌∙◌}
-use borrow.Author.Rules.{rules}
-use borrow.Author.Tests.{not-true, not-false}
 use Rattle.definitions.specs.Scope.{within}
 use Rattle.records.proofs.Accepted.{accepted-header}
 use Rattle.nodes.proofs.Scopes.{within-root, there-root}

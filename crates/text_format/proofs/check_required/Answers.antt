@@ -1,7 +1,5 @@
 -- `text_format::check_required` meets its contract.
-use mathlib.Core.Path.{◌≡◌, refl, sym, ◌∙◌}
-use native.Mathlib.Omega.{arith}
-use borrow.Author.Tests.{not-true, not-false}
+use mathlib.Core.Path.{sym, ◌∙◌}
 use Rattle.records.proofs.Accepted.{accepted-header}
 use Rattle.text_format.proofs.Tables.{bar-free, bar-some, required-barred, required-complete, required-missing}
 use Rattle.text_format.proofs.check_required.Goals as goal

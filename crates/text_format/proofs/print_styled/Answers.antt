@@ -1,11 +1,8 @@
 -- `text_format::print_styled` meets its contract: barred, too long for the buffer, or printed.
-use mathlib.Core.Path.{◌≡◌, refl, sym, ◌∙◌}
-use native.Mathlib.Omega.{arith}
 use Rattle.records.proofs.Accepted.{accepted-header}
 use Rattle.fields.specs.Fields.{style_of}
 use Rattle.text_format.proofs.Tables.{bar-free, bar-some}
 use Rattle.text_format.proofs.Prints.{empty-part, print-barred, print-short, print-made}
-use borrow.Author.Rules.{rules}
 use Rattle.text_format.proofs.print_styled.Goals as goal
 
 pub returns-then-why-ne0 : goal.returns-then-why-ne0

@@ -1,10 +1,7 @@
 -- `text_format::read` meets its contract: barred by schema, root or length, or as the readers end.
-use mathlib.Core.Path.{◌≡◌, refl, sym, ◌∙◌}
-use native.Mathlib.Omega.{arith}
-use borrow.Author.Tests.{not-true, not-false}
+use mathlib.Core.Path.{sym, ◌∙◌}
 use Rattle.records.proofs.Accepted.{accepted-header}
 use Rattle.text_format.proofs.Ends.{ends-schema, ends-root, ends-long, ends_read}
-use borrow.Author.Rules.{rules}
 use Rattle.text_format.proofs.read.Goals as goal
 
 pub returns-then-not-check : goal.returns-then-not-check

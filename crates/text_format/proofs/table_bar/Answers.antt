@@ -1,7 +1,5 @@
 -- `text_format::table_bar` meets its contract.
-use mathlib.Core.Path.{◌≡◌, refl, sym, ◌∙◌}
-use native.Mathlib.Omega.{arith}
-use borrow.Author.Tests.{not-true, not-false}
+use mathlib.Core.Path.{sym, ◌∙◌}
 use Rattle.records.proofs.Accepted.{accepted-header}
 use Rattle.text_format.proofs.Tables.{bar-schema, bar-root, bar-table, bar-nothing}
 use Rattle.text_format.proofs.table_bar.Goals as goal

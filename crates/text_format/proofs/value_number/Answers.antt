@@ -1,9 +1,4 @@
 -- `text_format::value_number` meets its contract.
-use borrow.Author.Rules.{rules}
-use mathlib.Core.Path.{◌≡◌, refl, sym, ◌∙◌}
-use native.Mathlib.Omega.{arith}
-use borrow.Author.Tests.{not-true, not-false}
-use Rattle.records.proofs.Accepted.{accepted-header}
 use Rattle.message.proofs.Lending.{valid-lendable}
 use Rattle.text_format.proofs.Tables.{bar-free, bar-some, value-barred, value-given, value_none}
 use Rattle.text_format.proofs.value_number.Goals as goal

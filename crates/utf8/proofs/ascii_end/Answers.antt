@@ -1,11 +1,7 @@
 -- `utf8::ascii_end` meets its contract. The invariant: the letters of one byte end from `i` on where they end from the start.
-use mathlib.Core.Path.{◌≡◌, ◌∙◌}
-use Prim.Native.Nat.{◌+◌, ◌-◌}
-use native.Mathlib.Omega.{arith}
+use mathlib.Core.Path.{◌∙◌}
 use native.Mathlib.Nat.{zero-add}
-use lib.ListN.{length, drop}
 use borrow.Author.Tests.{le-leb, lt-leb}
-use Rattle.definitions.specs.Integers.{front}
 use Rattle.utf8.specs.Values.{ascii}
 use Rattle.laws.proofs.Tests.{front-on, front-stop, front-end}
 use Rattle.utf8.proofs.ascii_end.Goals as goal

@@ -1,11 +1,8 @@
 -- `utf8::is_utf8` meets its contract. The invariant: the state now, taken along what is left, is the state at the end.
-use mathlib.Core.Path.{◌≡◌, sym, ◌∙◌, ap}
-use Prim.Native.Nat.{◌-◌}
-use native.Mathlib.Omega.{arith}
+use mathlib.Core.Path.{sym, ◌∙◌, ap}
 use lib.Dec.{eqb}
-use lib.ListN.{length, drop}
 use Rattle.definitions.specs.declared.Utf8.{Utf8}
-use Rattle.definitions.specs.Utf8.{whole, steps, utf8}
+use Rattle.definitions.specs.Utf8.{utf8}
 use Rattle.utf8.proofs.Letters.{steps-more, steps-end, steps_front}
 use Rattle.utf8.proofs.is_utf8.Goals as goal
 

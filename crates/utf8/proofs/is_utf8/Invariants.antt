@@ -1,12 +1,8 @@
 -- `utf8::is_utf8` meets its contract. The invariant: the state now, taken along what is left, is the state at the end.
-use mathlib.Core.Path.{◌≡◌, sym, ◌∙◌, ap}
+use mathlib.Core.Path.{◌≡◌}
 use Prim.Native.Nat.{◌-◌}
-use native.Mathlib.Omega.{arith}
-use lib.Dec.{eqb}
 use lib.ListN.{length, drop}
-use Rattle.definitions.specs.declared.Utf8.{Utf8}
-use Rattle.definitions.specs.Utf8.{whole, steps, utf8}
-use Rattle.utf8.proofs.Letters.{steps-more, steps-end, steps_front}
+use Rattle.definitions.specs.Utf8.{whole, steps}
 use Rattle.utf8.proofs.is_utf8.Given as goal
 
 abbrev pub invariant-loop-i : goal.invariant-loop-i

@@ -1,5 +1,4 @@
 -- `utf8::step` meets its contract: each `return` has its law.
-use borrow.Author.Rules.{rules}
 use mathlib.Core.Path.{sym, ◌∙◌}
 use Rattle.utf8.proofs.Letters.{step-lead, step-low, step-high, step-on}
 use Rattle.utf8.proofs.step.Goals as goal

@@ -1,15 +1,9 @@
 -- `valid::span_good` meets its contract. The invariant: what is left of the span is good if and only if the whole is. What is left falls,
 -- and what lies under a node is shorter than the span.
-use Prim.Native.Nat.{ℕ, ◌+◌, ◌-◌, ◌≤◌, ◌<◌}
-use native.Mathlib.Omega.{arith}
-use mathlib.Core.Path.{◌≡◌, refl, sym, ◌∙◌}
-use borrow.Author.Rules.{rules}
-use borrow.Author.Tests.{not-true, not-false}
-use Rattle.definitions.specs.Scope.{within, nests}
+use Prim.Native.Nat.{◌-◌, ◌≤◌}
+use mathlib.Core.Path.{◌≡◌}
+use Rattle.definitions.specs.Scope.{within}
 use Rattle.nodes.specs.Span.{span_good}
-use Rattle.nodes.proofs.Scopes.{there-want, nests-known}
-use Rattle.validity.proofs.Checks.{node-parts, fits-known}
-use Rattle.validity.proofs.Spans.{span-end, span-parts, turn-bad, turn-deep, turn-inner, turn-entry, turn-nests, turn-value}
 use Rattle.validity.proofs.+span_good.Given as goal
 
 abbrev pub invariant-loop-i : goal.invariant-loop-i

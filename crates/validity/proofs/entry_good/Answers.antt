@@ -1,7 +1,6 @@
 -- `validity::entry_good` meets its contract.
 use mathlib.Core.Path.{◌∙◌}
 use Rattle.validity.proofs.Checks.{entry-some, entry_other}
-use borrow.Author.Rules.{rules}
 use Rattle.validity.proofs.entry_good.Goals as goal
 
 pub returns-then-kind-eq-ENTRY : goal.returns-then-kind-eq-ENTRY

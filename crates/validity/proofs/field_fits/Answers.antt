@@ -1,8 +1,6 @@
 -- `validity::field_fits` meets its contract.
 use mathlib.Core.Path.{sym, ◌∙◌}
-use borrow.Author.Tests.{not-true, not-false}
 use Rattle.validity.proofs.Checks.{unknown-entry, unknown-zero, unknown-message, fits-no, fits-kind}
-use borrow.Author.Rules.{rules}
 use Rattle.validity.proofs.field_fits.Goals as goal
 
 pub returns-then-w-eq-ENTRY : goal.returns-then-w-eq-ENTRY

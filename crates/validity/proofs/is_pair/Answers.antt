@@ -1,7 +1,6 @@
 -- `validity::is_pair` meets its contract: none, one, two or more children.
 use native.Mathlib.Omega.{arith}
 use Rattle.validity.proofs.Spans.{pair-none, pair_one, pair-more, pair-key, pair-value, pair-other}
-use borrow.Author.Rules.{rules}
 use Rattle.validity.proofs.is_pair.Goals as goal
 
 pub returns-then-e-i : goal.returns-then-e-i

@@ -1,11 +1,9 @@
 -- `validity::is_valid` meets its contract: the root, then what lies below it.
 use native.Mathlib.Omega.{arith}
 use mathlib.Core.Path.{sym, ap, ◌∙◌}
-use borrow.Author.Tests.{not-true, not-false}
 use Rattle.definitions.specs.Scope.{within}
 use Rattle.nodes.proofs.Scopes.{within-root, there-root}
 use Rattle.validity.proofs.Root.{root-parts, root-end, valid-no, valid-span}
-use borrow.Author.Rules.{rules}
 use Rattle.validity.proofs.is_valid.Goals as goal
 
 pub returns-then-not-root_good : goal.returns-then-not-root_good

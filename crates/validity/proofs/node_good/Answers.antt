@@ -1,7 +1,5 @@
 -- `validity::node_good` meets its contract, word by word.
 use mathlib.Core.Path.{sym, ◌∙◌}
-use borrow.Author.Rules.{rules}
-use borrow.Author.Tests.{not-true, not-false}
 use Rattle.validity.proofs.Checks.{node-back, node-out, node-field, node-value, node-nests, node-leaf}
 use Rattle.validity.proofs.node_good.Goals as goal
 

@@ -1,6 +1,5 @@
 -- `validity::root_good` meets its contract, word by word.
 use Rattle.validity.proofs.Root.{root-short, root-kind, root-field, root-high, root-low, root_none, root-many, root-room}
-use borrow.Author.Rules.{rules}
 use Rattle.validity.proofs.root_good.Goals as goal
 
 pub returns-then-nodes-lt-NODE_WORDS : goal.returns-then-nodes-lt-NODE_WORDS

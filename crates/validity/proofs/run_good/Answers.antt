@@ -1,7 +1,6 @@
 -- `validity::run_good` meets its contract.
 use mathlib.Core.Path.{◌∙◌}
 use Rattle.validity.proofs.Checks.{run-outside, run-bytes, run-string}
-use borrow.Author.Rules.{rules}
 use Rattle.validity.proofs.run_good.Goals as goal
 
 pub returns-then-pool-end : goal.returns-then-pool-end

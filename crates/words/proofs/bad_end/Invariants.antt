@@ -1,13 +1,9 @@
 -- `words::bad_end` meets its contract. The invariant: what goes on the token from `i` on ends it.
-use mathlib.Core.Path.{◌≡◌, sym, ◌∙◌}
+use mathlib.Core.Path.{◌≡◌}
 use Prim.Native.Nat.{◌+◌, ◌-◌}
-use native.Mathlib.Omega.{arith}
 use lib.ListN.{length, drop}
-use borrow.Author.Tests.{not-true, not-false}
 use Rattle.definitions.specs.Integers.{front}
-use Rattle.laws.proofs.Tests.{front-on, front-stop, front-end}
 use Rattle.words.specs.Words.{goes_with, bad_length}
-use Rattle.words.proofs.Words.{bad-is}
 use Rattle.words.proofs.bad_end.Given as goal
 
 abbrev pub invariant-loop-i : goal.invariant-loop-i

@@ -1,7 +1,6 @@
 -- `words::goes_with` meets its contract, by the class of the first byte.
 use mathlib.Core.Path.{sym, ◌∙◌, ap}
 use native.Mathlib.Omega.{arith}
-use borrow.Author.Rules.{rules}
 use lib.Dec.{leb}
 use Rattle.lexer.proofs.Table.{class-read}
 use Rattle.words.proofs.Words.{string-ends, string-on, number-point, number-on, alone, high-on}

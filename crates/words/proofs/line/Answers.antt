@@ -1,6 +1,5 @@
 -- `words::line` meets its contract: a part of the text, or none of it.
 use Rattle.words.proofs.Lines.{line-past, line-inside, line-there}
-use borrow.Author.Rules.{rules}
 use Rattle.words.proofs.line.Goals as goal
 
 pub returns-then-text-at : goal.returns-then-text-at

@@ -1,6 +1,5 @@
 -- `words::line_at` meets its contract. The invariant: `line` is the line of `i`.
 use mathlib.Core.Path.{◌≡◌, sym, ◌∙◌, ap}
-use Prim.Native.Nat.{◌-◌, ◌≤◌}
 use native.Mathlib.Omega.{arith}
 use Rattle.lexer.specs.declared.tokens.Line.{Line}
 use Rattle.lexer.specs.Steps.{line_at}

@@ -1,10 +1,7 @@
 -- `words::line_at` meets its contract. The invariant: `line` is the line of `i`.
-use mathlib.Core.Path.{◌≡◌, sym, ◌∙◌, ap}
+use mathlib.Core.Path.{◌≡◌}
 use Prim.Native.Nat.{◌-◌, ◌≤◌}
-use native.Mathlib.Omega.{arith}
-use Rattle.lexer.specs.declared.tokens.Line.{Line}
 use Rattle.lexer.specs.Steps.{line_at}
-use Rattle.lexer.proofs.Lines.{line-first, line_on, line-next, line_small}
 use Rattle.words.proofs.line_at.Given as goal
 
 abbrev pub invariant-loop-i : goal.invariant-loop-i

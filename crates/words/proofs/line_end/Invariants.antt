@@ -1,10 +1,8 @@
 -- `words::line_end` meets its contract. The invariant: the line ends from `end` on where it ends from the start.
-use mathlib.Core.Path.{◌≡◌, refl, ◌∙◌}
+use mathlib.Core.Path.{◌≡◌}
 use Prim.Native.Nat.{◌-◌}
-use native.Mathlib.Omega.{arith}
 use lib.ListN.{length}
 use Rattle.words.specs.Words.{line_end}
-use Rattle.words.proofs.Lines.{end-here, end_on, end-last}
 use Rattle.words.proofs.line_end.Given as goal
 
 abbrev pub invariant-loop-end : goal.invariant-loop-end

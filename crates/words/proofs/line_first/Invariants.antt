@@ -1,10 +1,8 @@
 -- `words::line_first` meets its contract. The invariant: the line of `first` begins where the line of the start begins.
-use mathlib.Core.Path.{◌≡◌, refl, ◌∙◌}
+use mathlib.Core.Path.{◌≡◌}
 use Prim.Native.Nat.{◌≤◌}
-use native.Mathlib.Omega.{arith}
 use lib.ListN.{length}
 use Rattle.words.specs.Words.{line_first}
-use Rattle.words.proofs.Lines.{first_past, first-zero, first_next, first_on}
 use Rattle.words.proofs.line_first.Given as goal
 
 abbrev pub invariant-loop-first : goal.invariant-loop-first

@@ -1,6 +1,5 @@
 -- `words::word` meets its contract: a part of the text, or none of it.
 use Rattle.words.proofs.Words.{word-long, word-past, word-inside, word-there}
-use borrow.Author.Rules.{rules}
 use Rattle.words.proofs.word.Goals as goal
 
 pub returns-then-text-gt-MOST_TEXT : goal.returns-then-text-gt-MOST_TEXT

@@ -1,7 +1,6 @@
 -- `words::word_part` meets its contract, by the token that the scanner finds.
 use mathlib.Core.Path.{sym, ◌∙◌}
 use Rattle.words.proofs.Words.{token-part, bad-part, bad-inside}
-use borrow.Author.Rules.{rules}
 use Rattle.words.proofs.word_part.Goals as goal
 
 pub bad_end-requires : goal.bad_end-requires

@@ -1,5 +1,4 @@
 -- `console::carrying::carried` is safe and ends. Assumes nothing.
-use Rattle.std.proofs.Common.{rules}
 use Rattle.console.proofs.carrying.carried.Goals as goal
 
 pub refused-requires-in-NotRead : goal.refused-requires-in-NotRead

@@ -1,5 +1,4 @@
 -- `console::carrying::carry_known` is safe and ends. Assumes nothing.
-use Rattle.std.proofs.Common.{rules}
 use Rattle.console.proofs.carrying.carry_known.Goals as goal
 
 pub root_of-requires : goal.root_of-requires

@@ -1,5 +1,4 @@
 -- `console::fleet::each` is safe and ends. The measure is left. Assumes nothing.
-use Rattle.std.proofs.Common.{rules}
 use Rattle.console.proofs.fleet.each.Given as goal
 
 abbrev pub invariant-loop-left : goal.invariant-loop-left

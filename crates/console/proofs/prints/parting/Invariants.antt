@@ -1,5 +1,5 @@
 -- `console::prints::parting` is safe and ends. The measure is end - i. Assumes nothing.
-use Rattle.std.proofs.Common.{◌-◌, rules}
+use Rattle.std.proofs.Common.{◌-◌}
 use Rattle.console.proofs.prints.parting.Given as goal
 
 abbrev pub invariant-loop-i : goal.invariant-loop-i

@@ -1,5 +1,4 @@
 -- `console::show::put_all` is safe and ends. The measure is left. Assumes nothing.
-use Rattle.std.proofs.Common.{rules}
 use Rattle.console.proofs.show.put_all.Goals as goal
 
 pub messages-count-requires : goal.messages-count-requires

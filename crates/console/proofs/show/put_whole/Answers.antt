@@ -1,5 +1,4 @@
 -- `console::show::put_whole` is safe and ends. The measure is left. Assumes nothing.
-use Rattle.std.proofs.Common.{rules}
 use Rattle.console.proofs.show.put_whole.Goals as goal
 
 pub title_of-requires : goal.title_of-requires

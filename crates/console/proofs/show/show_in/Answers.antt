@@ -1,6 +1,5 @@
 -- `console::show::show_in` is safe and ends. Assumes nothing.
-use Rattle.std.proofs.Common.{◌≡◌, sym, ◌∙◌, rules}
-use borrow.Author.Tests.{not-false}
+use Rattle.std.proofs.Common.{sym, ◌∙◌}
 use Rattle.records.proofs.Accepted.{accepted-header}
 use Rattle.console.proofs.show.show_in.Goals as goal
 

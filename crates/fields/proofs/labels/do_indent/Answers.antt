@@ -1,9 +1,6 @@
 -- `fields::labels::do_indent` meets its contract. The invariant: the levels passed are written.
 use borrow.Author.Rules.{rules}
-use mathlib.Core.Path.{refl, sym}
-use Prim.Native.Nat.{◌≤◌, ◌-◌}
-use Rattle.definitions.specs.Print.{indent}
-use Rattle.spelling.specs.Written.{Written}
+use mathlib.Core.Path.{sym}
 use Rattle.spelling.proofs.Texts.{as_written, none_written, written-length}
 use Rattle.fields.proofs.FieldLaws.{indent-none, indent-written, indent-room, indent-all}
 use Rattle.fields.proofs.labels.do_indent.Goals as goal

@@ -1,5 +1,4 @@
 -- `fields::labels::print_closing` meets its contract.
-use borrow.Author.Rules.{rules}
 use mathlib.Core.Path.{sym}
 use Rattle.spelling.proofs.Texts.{as_written, as_room, then-written, room-first, room-then}
 use Rattle.fields.proofs.FieldLaws.{closing-pretty, closing-compact}

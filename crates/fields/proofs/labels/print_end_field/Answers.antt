@@ -1,5 +1,4 @@
 -- `fields::labels::print_end_field` meets its contract.
-use borrow.Author.Rules.{rules}
 use mathlib.Core.Path.{sym}
 use Rattle.spelling.proofs.Texts.{as_written, as_room, none_written}
 use Rattle.fields.proofs.FieldLaws.{trail-pretty, trail-compact}

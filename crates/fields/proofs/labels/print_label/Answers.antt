@@ -1,5 +1,4 @@
 -- `fields::labels::print_label` meets its contract.
-use borrow.Author.Rules.{rules}
 use mathlib.Core.Path.{sym, ◌∙◌}
 use Rattle.spelling.proofs.Texts.{as_written, as_room}
 use Rattle.fields.proofs.FieldLaws.{label-unknown, label-field, label-key, label-value, named-field}

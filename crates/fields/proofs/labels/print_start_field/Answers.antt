@@ -1,5 +1,4 @@
 -- `fields::labels::print_start_field` meets its contract.
-use borrow.Author.Rules.{rules}
 use Rattle.spelling.proofs.Texts.{then-written, room-first, room-then}
 use Rattle.fields.proofs.labels.print_start_field.Goals as goal
 

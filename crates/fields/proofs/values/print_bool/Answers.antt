@@ -1,5 +1,4 @@
 -- `fields::values::print_bool` meets its contract.
-use borrow.Author.Rules.{rules}
 use borrow.Author.Tests.{eq-eqb, ne_eqb}
 use Rattle.fields.proofs.values.print_bool.Goals as goal
 

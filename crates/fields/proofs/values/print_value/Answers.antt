@@ -1,5 +1,4 @@
 -- `fields::values::print_value` meets its contract.
-use borrow.Author.Rules.{rules}
 use mathlib.Core.Path.{sym, ap, ◌∙◌}
 use Rattle.definitions.specs.Print.{quoted, number_text}
 use Rattle.spelling.proofs.Texts.{as_written, as_room, then-written, room-then}

@@ -1,5 +1,4 @@
 -- `hints::catalog::field` is safe and ends. Assumes nothing.
-use Rattle.std.proofs.Common.{◌≡◌, rules}
 use Rattle.records.proofs.Accepted.{accepted-header, known-placed}
 use Rattle.hints.proofs.catalog.field.Goals as goal
 

@@ -1,5 +1,4 @@
 -- `hints::catalog::message` is safe and ends. Assumes nothing.
-use Rattle.std.proofs.Common.{◌≡◌, rules}
 use Rattle.records.proofs.Accepted.{accepted-header}
 use Rattle.hints.proofs.catalog.message.Goals as goal
 

@@ -1,8 +1,4 @@
 -- `hints::scene::walked` is safe and ends: the cursor stays on its line. The measure is the turns that are left. Assumes nothing.
-use Rattle.std.proofs.Common.{arith, rules}
-use Rattle.laws.proofs.Reach.{reach}
-use Rattle.leaves.proofs.Steps.{scanned, scanned-line}
-use Rattle.lexer.proofs.Lines.{line-first}
 use Rattle.lexer.specs.Steps.{Located}
 use Rattle.hints.proofs.scene.walked.Given as goal
 

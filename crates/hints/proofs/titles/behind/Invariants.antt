@@ -1,5 +1,5 @@
 -- `hints::titles::behind` is safe and ends. The measure is i. Assumes nothing.
-use Rattle.std.proofs.Common.{◌≤◌, length, rules}
+use Rattle.std.proofs.Common.{◌≤◌, length}
 use Rattle.hints.proofs.titles.behind.Given as goal
 
 abbrev pub invariant-loop-i : goal.invariant-loop-i

@@ -1,5 +1,5 @@
 -- `hints::titles::message_of` is safe and ends. The measure is count - k. Assumes nothing.
-use Rattle.std.proofs.Common.{◌-◌, rules}
+use Rattle.std.proofs.Common.{◌-◌}
 use Rattle.hints.proofs.titles.message_of.Given as goal
 
 abbrev pub invariant-loop-k : goal.invariant-loop-k

@@ -1,5 +1,5 @@
 -- `hints::titles::plain_front` is safe and ends. The measure is length s - i. Assumes nothing.
-use Rattle.std.proofs.Common.{◌-◌, length, rules}
+use Rattle.std.proofs.Common.{◌-◌, length}
 use Rattle.hints.proofs.titles.plain_front.Given as goal
 
 abbrev pub invariant-loop-i : goal.invariant-loop-i

@@ -1,6 +1,4 @@
 -- `leaves::ranges::widened` meets its contract.
-use native.Mathlib.Omega.{arith}
-use borrow.Author.Rules.{rules}
 use borrow.Author.Tests.{lt-ltb, le-ltb}
 use Rattle.definitions.specs.Nodes.{widen}
 use Rattle.leaves.proofs.ranges.widened.Goals as goal

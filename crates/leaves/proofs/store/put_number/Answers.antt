@@ -1,6 +1,5 @@
 -- `leaves::store::put_number` meets its contract: a node's words are put where there is room.
 use Rattle.leaves.proofs.Returns.{number-answers}
-use borrow.Author.Rules.{rules}
 use Rattle.leaves.proofs.store.put_number.Goals as goal
 
 pub returns : goal.returns

@@ -1,7 +1,6 @@
 -- `lexer::classes::class_of` meets its contract: the lent table is the definitions' one, a byte lies inside it, and the table keeps the rule.
 use mathlib.Core.Path.{◌∙◌}
 use native.Mathlib.Omega.{arith}
-use borrow.Author.Rules.{rules}
 use Rattle.laws.proofs.ClassTable.{class-rule}
 use Rattle.lexer.proofs.Table.{class-read}
 use Rattle.lexer.proofs.classes.class_of.Goals as goal

@@ -1,10 +1,8 @@
 -- `lexer::tokens::comment_end` meets its contract. The invariant: the comment ends from `i` on where it ends from the start.
-use mathlib.Core.Path.{◌≡◌, refl, ◌∙◌}
+use mathlib.Core.Path.{◌≡◌}
 use Prim.Native.Nat.{◌+◌, ◌-◌}
-use native.Mathlib.Omega.{arith}
 use lib.ListN.{length, drop}
 use Rattle.lexer.specs.Steps.{comment}
-use Rattle.lexer.proofs.Laws.{comment-on, comment-newline, comment-end}
 use Rattle.lexer.proofs.tokens.comment_end.Given as goal
 
 abbrev pub invariant-loop-i : goal.invariant-loop-i

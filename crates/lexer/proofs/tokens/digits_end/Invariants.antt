@@ -1,12 +1,9 @@
 -- `lexer::tokens::digits_end` meets its contract. The invariant: the digits end from `i` on where they end from the start.
-use mathlib.Core.Path.{◌≡◌, refl, ◌∙◌}
+use mathlib.Core.Path.{◌≡◌}
 use Prim.Native.Nat.{◌+◌, ◌-◌}
-use native.Mathlib.Omega.{arith}
 use lib.ListN.{length, drop}
-use borrow.Author.Tests.{le-leb, lt-leb}
 use Rattle.definitions.specs.Basics.{between}
 use Rattle.definitions.specs.Integers.{front}
-use Rattle.laws.proofs.Tests.{front-on, front-stop, front-end}
 use Rattle.lexer.proofs.tokens.digits_end.Given as goal
 
 abbrev pub invariant-loop-i : goal.invariant-loop-i

@@ -1,10 +1,6 @@
 -- `lexer::tokens::hex_end` meets its contract. The invariant: the digits end from `i` on where they end from the start.
-use mathlib.Core.Path.{◌≡◌, refl, ◌∙◌, sym}
-use Prim.Native.Nat.{◌+◌, ◌-◌}
-use native.Mathlib.Omega.{arith}
-use lib.ListN.{length, drop}
-use borrow.Author.Tests.{not-true, not-false}
-use Rattle.definitions.specs.Integers.{front, hex_digit}
+use mathlib.Core.Path.{◌∙◌, sym}
+use Rattle.definitions.specs.Integers.{hex_digit}
 use Rattle.laws.proofs.Tests.{front-on, front-stop, front-end}
 use Rattle.lexer.proofs.tokens.hex_end.Goals as goal
 

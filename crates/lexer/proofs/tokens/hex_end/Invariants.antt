@@ -1,11 +1,8 @@
 -- `lexer::tokens::hex_end` meets its contract. The invariant: the digits end from `i` on where they end from the start.
-use mathlib.Core.Path.{◌≡◌, refl, ◌∙◌, sym}
+use mathlib.Core.Path.{◌≡◌}
 use Prim.Native.Nat.{◌+◌, ◌-◌}
-use native.Mathlib.Omega.{arith}
 use lib.ListN.{length, drop}
-use borrow.Author.Tests.{not-true, not-false}
 use Rattle.definitions.specs.Integers.{front, hex_digit}
-use Rattle.laws.proofs.Tests.{front-on, front-stop, front-end}
 use Rattle.lexer.proofs.tokens.hex_end.Given as goal
 
 abbrev pub invariant-loop-i : goal.invariant-loop-i

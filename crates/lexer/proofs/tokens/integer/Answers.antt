@@ -2,7 +2,6 @@
 use mathlib.Core.Path.{sym, ◌∙◌, ap}
 use Rattle.lexer.specs.Steps.{on_line}
 use Rattle.lexer.proofs.Laws.{integer-bad, integer-good}
-use borrow.Author.Rules.{rules}
 use Rattle.lexer.proofs.tokens.integer.Goals as goal
 
 pub integer_end-end-requires : goal.integer_end-end-requires

@@ -2,7 +2,6 @@
 use Prim.Native.Nat.{◌+◌}
 use native.Mathlib.Omega.{arith}
 use lib.ListN.{drop}
-use borrow.Author.Rules.{rules}
 use Rattle.lexer.proofs.Laws.{decimal}
 use Rattle.lexer.proofs.tokens.integer_end.Goals as goal
 

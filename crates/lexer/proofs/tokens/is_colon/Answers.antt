@@ -1,7 +1,6 @@
 -- `lexer::tokens::is_colon` meets its contract: inside the text its byte decides.
-use mathlib.Core.Path.{◌≡◌, refl}
+use mathlib.Core.Path.{refl}
 use borrow.Author.Tests.{lt-ltb, le-ltb}
-use borrow.Author.Rules.{rules}
 use Rattle.lexer.proofs.tokens.is_colon.Goals as goal
 
 pub returns-then-at-text : goal.returns-then-at-text

@@ -1,13 +1,9 @@
 -- `lexer::tokens::name_end` meets its contract. The invariant: the name ends from `i` on where it ends from the start.
-use mathlib.Core.Path.{◌≡◌, refl, ◌∙◌, ap, sym}
+use mathlib.Core.Path.{◌≡◌}
 use Prim.Native.Nat.{◌+◌, ◌-◌}
-use native.Mathlib.Omega.{arith}
-use lib.Dec.{leb}
 use lib.ListN.{length, drop}
-use borrow.Author.Tests.{le-leb, lt-leb}
 use Rattle.definitions.specs.Classes.{goes_on}
 use Rattle.definitions.specs.Integers.{front}
-use Rattle.laws.proofs.Tests.{front-on, front-stop, front-end}
 use Rattle.lexer.proofs.tokens.name_end.Given as goal
 
 abbrev pub invariant-loop-i : goal.invariant-loop-i

@@ -1,6 +1,5 @@
 -- `lexer::tokens::runs_on` meets its contract, by the byte at the place, if there is one.
 use mathlib.Core.Bool.{or-true, or-false}
-use borrow.Author.Rules.{rules}
 use borrow.Author.Tests.{eq-eqb, ne_eqb}
 use Rattle.lexer.proofs.Laws.{runs-end, runs-at}
 use Rattle.lexer.proofs.tokens.runs_on.Goals as goal

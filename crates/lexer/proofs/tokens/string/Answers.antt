@@ -2,7 +2,6 @@
 use mathlib.Core.Path.{sym, ◌∙◌, ap}
 use Rattle.lexer.specs.Steps.{on_line}
 use Rattle.lexer.proofs.Laws.{string-bad, string-good}
-use borrow.Author.Rules.{rules}
 use Rattle.lexer.proofs.tokens.string.Goals as goal
 
 pub string_end-requires : goal.string_end-requires

@@ -1,10 +1,8 @@
 -- `lexer::tokens::string_end` meets its contract. The invariant: the string is closed from `i` on where it is closed from the start.
-use mathlib.Core.Path.{◌≡◌, refl, sym, ◌∙◌, subst}
+use mathlib.Core.Path.{sym, ◌∙◌, subst}
 use mathlib.Core.Bool.{false, true}
-use Prim.Native.Nat.{ℕ, ◌-◌, ◌≤◌}
-use native.Mathlib.Omega.{arith}
-use lib.ListN.{length}
-use Rattle.lexer.proofs.Laws.{close_at, close-end, close-break, string-closed, string-plain, string-other, string-slash, string-taken}
+use Prim.Native.Nat.{ℕ, ◌≤◌}
+use Rattle.lexer.proofs.Laws.{close-end, close-break, string-closed, string-plain, string-other, string-slash, string-taken}
 use Rattle.lexer.proofs.tokens.string_end.Goals as goal
 
 pub class_of-requires : goal.class_of-requires

@@ -1,10 +1,10 @@
 -- `lexer::tokens::token_at` meets its contract, by the class of the token's first byte.
 use mathlib.Core.Path.{◌≡◌, sym, ◌∙◌, ap}
-use Prim.Native.Nat.{ℕ, ◌+◌, ◌<◌}
+use Prim.Native.Nat.{ℕ, ◌+◌}
 use mathlib.Core.Bool.{false}
 use mathlib.Core.List.{List}
 use native.Mathlib.Omega.{arith}
-use lib.ListN.{get_or, drop, length}
+use lib.ListN.{get_or, drop}
 use Rattle.definitions.specs.declared.Place.{Place}
 use Rattle.definitions.specs.Classes.{class, goes_on}
 use Rattle.definitions.specs.Integers.{front}
@@ -13,7 +13,6 @@ use Rattle.lexer.specs.declared.tokens.Cursor.{Cursor}
 use Rattle.lexer.specs.declared.tokens.Step.TheVariants as step
 use Rattle.lexer.specs.Steps.{Met, place_at, on_line}
 use Rattle.lexer.proofs.Laws.{from-letter, from-digit, from-quote, from-symbol, from-none}
-use borrow.Author.Rules.{rules}
 use Rattle.lexer.proofs.tokens.token_at.Goals as goal
 
 -- the class of the byte met

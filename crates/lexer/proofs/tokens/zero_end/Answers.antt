@@ -1,7 +1,6 @@
 -- `lexer::tokens::zero_end` meets its contract, by what follows the `0`.
 use Prim.Native.Nat.{◌+◌}
 use native.Mathlib.Omega.{arith}
-use borrow.Author.Rules.{rules}
 use Rattle.lexer.proofs.Laws.{zero-hex, zero-alone, zero-octal, zero-last}
 use Rattle.lexer.proofs.tokens.zero_end.Goals as goal
 

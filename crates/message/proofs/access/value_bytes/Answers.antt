@@ -2,7 +2,6 @@
 use native.Mathlib.Omega.{arith}
 use mathlib.Core.Path.{sym, ◌∙◌}
 use Rattle.message.proofs.Lending.{lent_none, lent-part, lent-inside}
-use borrow.Author.Rules.{rules}
 use Rattle.message.proofs.access.value_bytes.Goals as goal
 
 pub value_run-run-requires : goal.value_run-run-requires

@@ -3,7 +3,6 @@ use native.Mathlib.Omega.{arith}
 use mathlib.Core.Path.{sym, ◌∙◌}
 use Rattle.validity.proofs.Root.{root-parts, root-end}
 use Rattle.message.proofs.Lending.{value-past, value-at, value-other}
-use borrow.Author.Rules.{rules}
 use Rattle.message.proofs.access.value_run.Goals as goal
 
 pub node-root-requires : goal.node-root-requires

@@ -1,12 +1,8 @@
 -- `required::is_complete` meets its contract. The invariant: the whole is complete if the live messages and entries from the sibling that the
 -- walk has come to on are. What is left falls, and what lies under a node is shorter than the span.
-use Prim.Native.Nat.{ℕ, ◌+◌, ◌-◌, ◌<◌}
 use native.Mathlib.Omega.{arith}
 use mathlib.Core.Path.{sym, ◌∙◌}
-use borrow.Author.Rules.{rules}
-use borrow.Author.Tests.{not-true, not-false}
-use Rattle.definitions.specs.Scope.{within}
-use Rattle.message.proofs.Requires.{Walk, walk-not, walk_start, walk_end, walk-on, walk-kids, walk-room, walk-value, walk-gone, walk_field, walk-there, walk-live, walk-missing}
+use Rattle.message.proofs.Requires.{walk-not, walk_start, walk_end, walk-on, walk-kids, walk-room, walk-value, walk-gone, walk_field, walk-there, walk-live, walk-missing}
 use Rattle.message.proofs.required.+is_complete.Goals as goal
 
 pub filled-requires : goal.filled-requires

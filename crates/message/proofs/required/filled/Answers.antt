@@ -1,18 +1,11 @@
 -- `message::required::filled` meets its contract. The invariant: each of the message's fields so far is not required, or has a value.
 use native.Mathlib.Omega.{arith}
-use Prim.Native.Nat.{ℕ, ◌-◌, ◌≤◌}
-use mathlib.Core.Bool.{true}
-use mathlib.Core.List.{List}
-use mathlib.Core.Logic.{⊎_elim}
-use mathlib.Core.Path.{◌≡◌, refl, sym, ◌∙◌}
-use borrow.Author.Rules.{rules}
-use borrow.Author.Tests.{not-true, not-false}
+use mathlib.Core.Path.{refl, sym, ◌∙◌}
 use Rattle.definitions.specs.Basics.{all}
 use Rattle.records.proofs.Accepted.{known-placed, accepted-header}
 use Rattle.records.proofs.Room.{field_count-lt}
 use Rattle.nodes.proofs.Scopes.{there-message}
-use Rattle.live.proofs.Lives.{from_on}
-use Rattle.message.proofs.Requires.{given, all_more, filled-entry, filled-done, filled-not, given-other, given-has, run-field}
+use Rattle.message.proofs.Requires.{all_more, filled-entry, filled-done, filled-not, given-other, given-has, run-field}
 use Rattle.message.proofs.required.filled.Goals as goal
 use Rattle.message.proofs.required.filled.Goals.{then-field-eq-REQUIRED+else-not-has, else-field-eq-REQUIRED}
 
@@ -46,7 +39,7 @@ loop-k-preserved c = (
   omega (arith, c.loop-k-test.true),
   λ pool. all_more _ _ (c.loop-k.invariant.1 pool)
       (elim c.if-field-eq-REQUIRED.branch [
-        then-field-eq-REQUIRED+else-not-has w ↦ given-has _ _ c.message-run.result _ _ c.field-field.ensures w.if-field-eq-REQUIRED.true (sym (w.has.ensures pool) ∙ w.if-not-has.false)
+        | then-field-eq-REQUIRED+else-not-has w ↦ given-has _ _ c.message-run.result _ _ c.field-field.ensures w.if-field-eq-REQUIRED.true (sym (w.has.ensures pool) ∙ w.if-not-has.false)
         | else-field-eq-REQUIRED w ↦ given-other _ _ c.message-run.result _ _ c.field-field.ensures w.if-field-eq-REQUIRED.false
       ]),
 )

@@ -1,18 +1,11 @@
 -- `message::required::filled` meets its contract. The invariant: each of the message's fields so far is not required, or has a value.
-use native.Mathlib.Omega.{arith}
 use Prim.Native.Nat.{ℕ, ◌-◌, ◌≤◌}
 use mathlib.Core.Bool.{true}
 use mathlib.Core.List.{List}
-use mathlib.Core.Logic.{⊎_elim}
-use mathlib.Core.Path.{◌≡◌, refl, sym, ◌∙◌}
-use borrow.Author.Rules.{rules}
-use borrow.Author.Tests.{not-true, not-false}
+use mathlib.Core.Path.{◌≡◌}
 use Rattle.definitions.specs.Basics.{all}
-use Rattle.records.proofs.Accepted.{known-placed, accepted-header}
-use Rattle.records.proofs.Room.{field_count-lt}
-use Rattle.nodes.proofs.Scopes.{there-message}
 use Rattle.live.proofs.Lives.{from_on}
-use Rattle.message.proofs.Requires.{given, all_more, filled-entry, filled-done, filled-not, given-other, given-has, run-field}
+use Rattle.message.proofs.Requires.{given}
 use Rattle.message.proofs.required.filled.Given as goal
 
 abbrev pub invariant-loop-k : goal.invariant-loop-k

@@ -1,9 +1,6 @@
 -- `message::required::has` meets its contract. The invariant: the rank has a value from the sibling that the walk has come to on, if it has one at all.
-use native.Mathlib.Omega.{arith}
 use Prim.Native.Nat.{◌-◌}
-use mathlib.Core.Path.{sym, ◌∙◌}
-use borrow.Author.Rules.{rules}
-use Rattle.message.proofs.Requires.{Seek, seek-start, seek-end, seek_found, seek-on, seek-past}
+use Rattle.message.proofs.Requires.{Seek}
 use Rattle.message.proofs.required.has.Given as goal
 
 abbrev pub invariant-loop-i : goal.invariant-loop-i

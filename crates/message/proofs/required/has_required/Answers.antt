@@ -7,7 +7,6 @@ use Rattle.validity.proofs.Root.{root-parts, root-end}
 use Rattle.validity.proofs.Values.{valid-root}
 use Rattle.live.proofs.Sounds.{sound-valid}
 use Rattle.message.proofs.Requires.{meaning-below}
-use borrow.Author.Rules.{rules}
 use Rattle.message.proofs.required.has_required.Goals as goal
 
 pub node-n-requires : goal.node-n-requires

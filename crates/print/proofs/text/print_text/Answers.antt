@@ -1,5 +1,4 @@
 -- `print::text::print_text` meets its contract.
-use borrow.Author.Rules.{rules}
 use Rattle.spelling.proofs.Texts.{as_written}
 use Rattle.print.proofs.Whole.{whole_room, whole-text, whole-printable, whole-fits}
 use Rattle.print.proofs.text.print_text.Goals as goal

@@ -2,7 +2,6 @@
 use mathlib.Core.Path.{◌∙◌, ap}
 use Rattle.definitions.specs.declared.Field.{Field}
 use Rattle.definitions.specs.Image.{name_text, field_name}
-use borrow.Author.Rules.{rules}
 use Rattle.records.proofs.names.field_name.Goals as goal
 
 pub name-requires : goal.name-requires

@@ -2,7 +2,6 @@
 use mathlib.Core.Path.{◌∙◌, ap}
 use Rattle.definitions.specs.declared.Member.{Member}
 use Rattle.definitions.specs.Image.{name_text, member_name}
-use borrow.Author.Rules.{rules}
 use Rattle.records.proofs.names.member_name.Goals as goal
 
 pub name-requires : goal.name-requires

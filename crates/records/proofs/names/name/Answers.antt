@@ -6,7 +6,6 @@ use native.Mathlib.Omega.{arith}
 use lib.ListN.{drop, take}
 use Rattle.definitions.specs.Image.{names_at, name_text}
 use Rattle.records.proofs.Room.{name-room, names-start}
-use borrow.Author.Rules.{rules}
 use Rattle.records.proofs.names.name.Goals as goal
 
 text : (s : List ℕ) (at start count names : ℕ) → names ≡ at → take (names + start + count - (names + start)) (drop (names + start) s) ≡ take count (drop (at + start) s)

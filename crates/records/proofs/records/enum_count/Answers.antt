@@ -1,6 +1,5 @@
 -- `records::records::enum_count` meets its contract: what `bits` ensures.
 use Rattle.definitions.specs.Image.{enum_count}
-use borrow.Author.Rules.{rules}
 use Rattle.records.proofs.records.enum_count.Goals as goal
 
 pub returns : goal.returns

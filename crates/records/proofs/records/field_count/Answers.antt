@@ -1,6 +1,5 @@
 -- `records::records::field_count` meets its contract: what `bits` ensures.
 use Rattle.definitions.specs.Image.{field_count}
-use borrow.Author.Rules.{rules}
 use Rattle.records.proofs.records.field_count.Goals as goal
 
 pub returns : goal.returns

@@ -3,7 +3,6 @@ use mathlib.Core.Path.{refl}
 use Prim.Native.Nat.{◌+◌}
 use native.Mathlib.Omega.{arith}
 use Rattle.bits.proofs.BitLaws.{bits-loaded}
-use borrow.Author.Rules.{rules}
 use Rattle.records.proofs.records.field_zero.Goals as goal
 
 pub returns : goal.returns

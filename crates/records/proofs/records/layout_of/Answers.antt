@@ -3,7 +3,6 @@ use native.Mathlib.Omega.{arith}
 use Rattle.definitions.specs.Image.{messages_at, fields_at, enums_at, values_at, names_at}
 use Rattle.records.specs.Known.{layout_of}
 use Rattle.records.proofs.Room.{message_count-lt, field_count-lt, enum_count-lt, value_count-lt}
-use borrow.Author.Rules.{rules}
 use Rattle.records.proofs.records.layout_of.Goals as goal
 
 pub overflow_mul-fields : goal.overflow_mul-fields

@@ -1,6 +1,5 @@
 -- `records::records::message_count` meets its contract: what `bits` ensures.
 use Rattle.definitions.specs.Image.{message_count}
-use borrow.Author.Rules.{rules}
 use Rattle.records.proofs.records.message_count.Goals as goal
 
 pub returns : goal.returns

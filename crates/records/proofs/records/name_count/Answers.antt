@@ -1,6 +1,5 @@
 -- `records::records::name_count` meets its contract: what `bits` ensures.
 use Rattle.definitions.specs.Image.{name_count}
-use borrow.Author.Rules.{rules}
 use Rattle.records.proofs.records.name_count.Goals as goal
 
 pub returns : goal.returns

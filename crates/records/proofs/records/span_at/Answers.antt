@@ -1,7 +1,6 @@
 -- `records::records::span_at` meets its contract, field by field.
 use mathlib.Core.Path.{refl}
 use Rattle.bits.proofs.BitLaws.{bits-first}
-use borrow.Author.Rules.{rules}
 use Rattle.records.proofs.records.span_at.Goals as goal
 
 pub returns : goal.returns

@@ -1,6 +1,5 @@
 -- `records::records::value_count` meets its contract: what `bits` ensures.
 use Rattle.definitions.specs.Image.{value_count}
-use borrow.Author.Rules.{rules}
 use Rattle.records.proofs.records.value_count.Goals as goal
 
 pub returns : goal.returns

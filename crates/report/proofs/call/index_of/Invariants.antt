@@ -1,5 +1,5 @@
 -- `report::call::index_of` is safe and ends. The measure is count - k. Assumes nothing.
-use Rattle.std.proofs.Common.{◌-◌, rules}
+use Rattle.std.proofs.Common.{◌-◌}
 use Rattle.report.proofs.call.index_of.Given as goal
 
 abbrev pub invariant-loop-k : goal.invariant-loop-k

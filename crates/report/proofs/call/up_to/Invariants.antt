@@ -1,5 +1,4 @@
 -- `report::call::up_to` is safe and ends. The measure is turns. Assumes nothing.
-use Rattle.std.proofs.Common.{rules}
 use Rattle.report.proofs.call.up_to.Given as goal
 
 abbrev pub invariant-loop-turns : goal.invariant-loop-turns

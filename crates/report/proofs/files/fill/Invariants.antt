@@ -1,5 +1,5 @@
 -- `report::files::fill` is safe and ends. The measure is turns. Assumes nothing.
-use Rattle.std.proofs.Common.{◌≡◌, length, rules}
+use Rattle.std.proofs.Common.{◌≡◌, length}
 use Rattle.report.proofs.files.fill.Given as goal
 
 abbrev pub invariant-loop-turns : goal.invariant-loop-turns

@@ -1,5 +1,4 @@
 -- `report::hint::known` is safe and ends. The measure is left. Assumes nothing.
-use Rattle.std.proofs.Common.{rules}
 use Rattle.report.proofs.hint.known.Given as goal
 
 abbrev pub invariant-loop-left : goal.invariant-loop-left

@@ -1,5 +1,5 @@
 -- `report::refusal::is_shown` is safe and ends. The measure is length word - i. Assumes nothing.
-use Rattle.std.proofs.Common.{◌-◌, length, rules}
+use Rattle.std.proofs.Common.{◌-◌, length}
 use Rattle.report.proofs.refusal.is_shown.Given as goal
 
 abbrev pub invariant-loop-i : goal.invariant-loop-i

@@ -1,5 +1,5 @@
 -- `report::say::say` is safe and ends. The measure is length template - i. Assumes nothing.
-use Rattle.std.proofs.Common.{◌-◌, length, rules}
+use Rattle.std.proofs.Common.{◌-◌, length}
 use Rattle.report.proofs.say.say.Given as goal
 
 abbrev pub invariant-loop-i : goal.invariant-loop-i

@@ -3,7 +3,6 @@ use mathlib.Core.Path.{sym, ◌∙◌, refl}
 use native.Mathlib.Omega.{arith}
 use Rattle.leaves.proofs.Returns.{no-answers, answers_by}
 use Rattle.leaves.proofs.Steps.{fair-located, scanned-line, scanned, scanned-bad, bad-is, reached, bool-bad, bool-other, bool-true, bool_false, bool-neither}
-use borrow.Author.Rules.{rules}
 use Rattle.scalars.proofs.names.read_bool.Goals as goal
 
 pub next_from-st-requires : goal.next_from-st-requires

@@ -4,7 +4,6 @@ use native.Mathlib.Omega.{arith}
 use Rattle.records.proofs.Accepted.{known-placed, member-found}
 use Rattle.leaves.proofs.Returns.{no-answers, answers_by}
 use Rattle.leaves.proofs.Steps.{fair-located, scanned-line, scanned, scanned-bad, bad-is, reached, nothing_is, found-is, enum-bad, enum-other, enum-unknown, enum_known}
-use borrow.Author.Rules.{rules}
 use Rattle.scalars.proofs.names.read_enum.Goals as goal
 
 pub next_from-st-requires : goal.next_from-st-requires

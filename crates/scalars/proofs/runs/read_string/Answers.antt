@@ -2,14 +2,13 @@
 use lib.Dec.{eqb}
 use Rattle.definitions.specs.Scope.{string}
 use Prim.Native.Nat.{◌+◌, ◌-◌}
-use mathlib.Core.Path.{◌≡◌, sym, ◌∙◌, refl}
+use mathlib.Core.Path.{sym, ◌∙◌, refl}
 use native.Mathlib.Omega.{arith}
 use Rattle.laws.proofs.Reach.{reach}
 use Rattle.laws.proofs.Goes.{part-le}
 use Rattle.leaves.proofs.Returns.{no-answers, answers_by, run-answers}
 use Rattle.leaves.proofs.Steps.{fair-located, scanned-line, scanned, scanned-bad, bad-is, undecoded-is, decoded-is, string-bad, string-other, string-undecoded, string-broken, string-fine, string-room, broken-by}
 use Rattle.strings.proofs.Decoding.{decoded_front-all}
-use borrow.Author.Rules.{rules}
 use Rattle.scalars.proofs.runs.read_string.Goals as goal
 
 pub next_from-st-requires : goal.next_from-st-requires

@@ -1,7 +1,6 @@
 -- `session::table::join` makes no more words than the second slice holds. The measure is what is left to make. Assumes nothing.
-use borrow.Author.Rules.{rules}
-use mathlib.Core.Path.{◌≡◌, sym}
-use Prim.Native.Nat.{ℕ, ◌≤◌, ◌<◌, ◌-◌, ◌+◌}
+use mathlib.Core.Path.{◌≡◌}
+use Prim.Native.Nat.{◌≤◌, ◌-◌, ◌+◌}
 use lib.ListN.{length}
 use Rattle.session.proofs.table.join.Given as goal
 

@@ -1,5 +1,4 @@
 -- `session::tell::hex_words` is safe and ends. The measure is what is left of the slice. Assumes nothing.
-use borrow.Author.Rules.{rules}
 use Prim.Native.Nat.{◌-◌}
 use lib.ListN.{length}
 use Rattle.session.proofs.tell.hex_words.Given as goal

@@ -1,7 +1,6 @@
 -- `session::text::fill_words` is safe and ends. The measure is what is left of the slice, whose length stays. Assumes nothing.
-use borrow.Author.Rules.{rules}
-use mathlib.Core.Path.{◌≡◌, sym}
-use Prim.Native.Nat.{ℕ, ◌≤◌, ◌<◌, ◌-◌, ◌+◌}
+use mathlib.Core.Path.{◌≡◌}
+use Prim.Native.Nat.{◌-◌}
 use lib.ListN.{length}
 use Rattle.session.proofs.text.fill_words.Given as goal
 

@@ -1,6 +1,5 @@
 -- `session::text::kept_words` is safe and ends. The measure is what is left of the slice. Assumes nothing.
-use borrow.Author.Rules.{rules}
-use Prim.Native.Nat.{ℕ, ◌≤◌, ◌<◌, ◌-◌, ◌+◌}
+use Prim.Native.Nat.{◌-◌}
 use lib.ListN.{length}
 use Rattle.session.proofs.text.kept_words.Given as goal
 

@@ -1,6 +1,6 @@
 -- `spelling::numbers::decimal_length` meets its contract. The invariant: those counted, and those to come, are the number's.
 use native.Mathlib.Omega.{arith}
-use Rattle.spelling.proofs.ValueLaws.{Counted, counted_start, counted-on, counted-one, counted-two, counted-three, counted-four}
+use Rattle.spelling.proofs.ValueLaws.{counted_start, counted-on, counted-one, counted-two, counted-three, counted-four}
 use Rattle.spelling.proofs.numbers.decimal_length.Goals as goal
 
 pub loop-left-init : goal.loop-left-init

@@ -1,6 +1,5 @@
 -- `spelling::numbers::decimal_length` meets its contract. The invariant: those counted, and those to come, are the number's.
-use native.Mathlib.Omega.{arith}
-use Rattle.spelling.proofs.ValueLaws.{Counted, counted_start, counted-on, counted-one, counted-two, counted-three, counted-four}
+use Rattle.spelling.proofs.ValueLaws.{Counted}
 use Rattle.spelling.proofs.numbers.decimal_length.Given as goal
 
 abbrev pub invariant-loop-left : goal.invariant-loop-left

@@ -1,10 +1,5 @@
 -- `spelling::numbers::print_decimal` meets its contract. The invariant: the digits to come, put where they belong, give what all of them give.
-use borrow.Author.Rules.{rules}
-use mathlib.Core.Path.{◌∙◌}
-use native.Mathlib.Omega.{arith}
-use Rattle.laws.proofs.Decimal.{decimal-some}
-use Rattle.spelling.proofs.Texts.{text-passed, written-length}
-use Rattle.spelling.proofs.ValueLaws.{Digits, digits-start, digits-room, digits-length, digits-some, digits_more, digits_last}
+use Rattle.spelling.proofs.ValueLaws.{Digits}
 use Rattle.spelling.proofs.numbers.print_decimal.Given as goal
 
 abbrev pub invariant-loop-left : goal.invariant-loop-left

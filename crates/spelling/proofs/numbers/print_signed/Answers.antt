@@ -1,5 +1,4 @@
 -- `spelling::numbers::print_signed` meets its contract.
-use borrow.Author.Rules.{rules}
 use mathlib.Core.Path.{sym}
 use Rattle.laws.proofs.Ranges.{signed_decimal-plain}
 use Rattle.spelling.proofs.ValueLaws.{signed_parts}

@@ -1,11 +1,8 @@
 -- `spelling::strings::print_str_to` meets its contract. The invariant: the quote and the bytes passed are written.
-use borrow.Author.Rules.{rules}
 use Prim.Native.Nat.{◌≤◌, ◌-◌}
 use lib.ListN.{length, take}
 use Rattle.definitions.specs.Print.{quote_bytes}
 use Rattle.spelling.specs.Written.{Written}
-use Rattle.spelling.proofs.Texts.{written-length}
-use Rattle.spelling.proofs.ValueLaws.{quoted-none, quoted-more, quoted-end, quoted-room-first, quoted-room, quoted-room-last}
 use Rattle.spelling.proofs.strings.print_str_to.Given as goal
 
 abbrev pub invariant-loop-i : goal.invariant-loop-i

@@ -1,5 +1,4 @@
 -- `spelling::strings::put_slashed` meets its contract.
-use borrow.Author.Rules.{rules}
 use Rattle.spelling.proofs.Texts.{then-written}
 use Rattle.spelling.proofs.strings.put_slashed.Goals as goal
 

@@ -1,8 +1,7 @@
 -- `spelling::strings::quote_byte_to` meets its contract.
 use mathlib.Core.Path.{sym}
 use native.Mathlib.Omega.{arith}
-use mathlib.Core.Logic.{⊎_elim, inl, inr}
-use borrow.Author.Rules.{rules}
+use mathlib.Core.Logic.{inl, inr}
 use Rattle.spelling.proofs.Texts.{as_written, as_room}
 use Rattle.spelling.proofs.ValueLaws.{quote-newline, quote-return, quote-tab, quote-self, quote-plain, quote-octal}
 use Rattle.spelling.proofs.strings.quote_byte_to.Goals as goal

@@ -1,5 +1,5 @@
 -- `streams::line::copy` copies no more than the second slice holds. The measure is what is left to copy. Assumes nothing.
-use Rattle.std.proofs.Common.{◌≡◌, ℕ, ◌+◌, ◌-◌, ◌<◌, ◌≤◌, length, sym, rules}
+use Rattle.std.proofs.Common.{◌≡◌, ◌-◌, length}
 use Rattle.streams.proofs.line.copy.Given as goal
 
 abbrev pub invariant-loop-i : goal.invariant-loop-i

@@ -1,5 +1,5 @@
 -- `streams::line::find` stays between its start and its end. The measure is what is left of them. Assumes nothing.
-use Rattle.std.proofs.Common.{ℕ, ◌+◌, ◌-◌, ◌<◌, ◌≤◌, length, rules}
+use Rattle.std.proofs.Common.{◌-◌, ◌≤◌}
 use Rattle.streams.proofs.line.find.Given as goal
 
 abbrev pub invariant-loop-i : goal.invariant-loop-i

@@ -1,5 +1,4 @@
 -- `streams::line::nth` is safe and ends. The measure is left. Assumes nothing.
-use Rattle.std.proofs.Common.{rules}
 use Rattle.streams.proofs.line.nth.Given as goal
 
 abbrev pub invariant-loop-left : goal.invariant-loop-left

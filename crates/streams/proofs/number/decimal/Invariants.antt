@@ -1,5 +1,5 @@
 -- `streams::number::decimal` is safe and ends. The measure is what is left of the digits. Assumes nothing.
-use Rattle.std.proofs.Common.{ℕ, ◌+◌, ◌-◌, ◌<◌, ◌≤◌, length, rules}
+use Rattle.std.proofs.Common.{◌-◌, length}
 use Rattle.streams.proofs.number.decimal.Given as goal
 
 abbrev pub invariant-loop-i : goal.invariant-loop-i

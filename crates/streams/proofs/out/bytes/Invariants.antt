@@ -1,5 +1,5 @@
 -- `streams::out::bytes` is safe and ends. The measure is what is left of the slice. Assumes nothing.
-use Rattle.std.proofs.Common.{◌-◌, length, rules}
+use Rattle.std.proofs.Common.{◌-◌, length}
 use Rattle.streams.proofs.out.bytes.Given as goal
 
 abbrev pub invariant-loop-i : goal.invariant-loop-i

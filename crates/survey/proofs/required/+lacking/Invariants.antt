@@ -1,11 +1,8 @@
 -- `required::lacking` meets its contract. The invariant: what lacks in the whole is what lacks in the live messages and entries from the sibling
 -- that the walk has come to on. What is left falls, and what lies under a node is shorter than the span.
-use Prim.Native.Nat.{ℕ, ◌-◌, ◌<◌}
-use native.Mathlib.Omega.{arith}
-use mathlib.Core.Path.{sym, ◌∙◌}
-use borrow.Author.Rules.{rules}
+use Prim.Native.Nat.{◌-◌}
 use Rattle.definitions.specs.Scope.{within}
-use Rattle.survey.proofs.Lackings.{Walk, walk-own, walk_start, walk_end, walk-on, walk-kids, walk-room, walk-value, walk-gone, walk_field, walk-there, walk-live, walk-found}
+use Rattle.survey.proofs.Lackings.{Walk}
 use Rattle.survey.proofs.required.+lacking.Given as goal
 
 abbrev pub invariant-loop-i : goal.invariant-loop-i

@@ -1,12 +1,11 @@
 -- `required::lacking_in` meets its contract: what is left of the message's fields finds what all of them find.
 use native.Mathlib.Omega.{arith}
-use Prim.Native.Nat.{◌-◌}
 use mathlib.Core.Path.{refl, sym, ap, ◌∙◌}
 use Rattle.records.proofs.Accepted.{accepted-header}
 use Rattle.records.proofs.Room.{field_count-lt}
 use Rattle.nodes.proofs.Scopes.{there-message}
 use Rattle.survey.specs.Survey.{missing_of}
-use Rattle.survey.proofs.Lackings.{Left, lacking-entry, lacking-own, run_inside, left-next, left-hit, left-none}
+use Rattle.survey.proofs.Lackings.{lacking-entry, lacking-own, run_inside, left-next, left-hit, left-none}
 use Rattle.survey.proofs.required.lacking_in.Goals as goal
 
 pub returns-then-w-eq-ENTRY : goal.returns-then-w-eq-ENTRY

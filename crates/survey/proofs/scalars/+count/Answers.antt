@@ -1,12 +1,8 @@
 -- `scalars::count` meets its contract. The invariant: what is counted so far, and the live values from the sibling that the walk has come to on,
 -- make the whole; and no more is counted than nodes are passed. What lies under a node is shorter than the span.
-use Prim.Native.Nat.{ℕ, ◌-◌, ◌<◌}
 use native.Mathlib.Omega.{arith}
 use mathlib.Core.Path.{sym, ◌∙◌}
-use lib.Dec.{eqb}
-use borrow.Author.Rules.{rules}
-use Rattle.definitions.specs.Scope.{within, map_entry}
-use Rattle.survey.proofs.Counts.{Tally, weight-le, tally-start, tally-end, tally-on, tally-kids, tally-room, tally-gone, tally-scalar, tally-field, tally-there, tally-inner}
+use Rattle.survey.proofs.Counts.{weight-le, tally-start, tally-end, tally-on, tally-kids, tally-room, tally-gone, tally-scalar, tally-field, tally-there, tally-inner}
 use Rattle.survey.proofs.scalars.+count.Goals as goal
 
 pub loop-i-init : goal.loop-i-init

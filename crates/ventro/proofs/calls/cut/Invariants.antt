@@ -1,7 +1,6 @@
 -- `ventro::calls::cut` is safe and ends. The measure is end - i. Assumes nothing.
 use Prim.Native.Nat.{◌-◌}
 use lib.ListN.{length}
-use borrow.Author.Rules.{rules}
 use mathlib.Core.Path.{◌≡◌}
 use Rattle.ventro.proofs.calls.cut.Given as goal
 

@@ -1,5 +1,4 @@
 -- `ventro::calls::script` is safe and ends. The measure is turns. Assumes nothing.
-use borrow.Author.Rules.{rules}
 use Rattle.ventro.proofs.calls.script.Given as goal
 
 abbrev pub invariant-loop-turns : goal.invariant-loop-turns

@@ -1,10 +1,9 @@
 -- `lexer::tokens::Cursor::colon_from` meets its contract: a colon right here is what a scan finds.
-use mathlib.Core.Path.{◌≡◌, sym, ◌∙◌, ap}
+use mathlib.Core.Path.{sym, ◌∙◌, ap}
 use native.Mathlib.Omega.{arith}
 use Rattle.lexer.specs.Steps.{step_of}
 use Rattle.lexer.proofs.Laws.{colon-there, colon-here}
 use Rattle.lexer.proofs.Lines.{placed-small, colon-on}
-use borrow.Author.Rules.{rules}
 use Rattle.lexer.proofs.tokens.Cursor.colon_from.Goals as goal
 
 pub place-requires : goal.place-requires
