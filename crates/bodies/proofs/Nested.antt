@@ -11,7 +11,7 @@ use Rattle.definitions.specs.declared.Place.{Place}
 use Rattle.definitions.specs.declared.Spot.{Spot}
 use Rattle.definitions.specs.declared.Token.{Token}
 use Rattle.definitions.specs.declared.Want.{Want}
-use Rattle.definitions.specs.Basics.{if◌then◌else◌}
+use Rattle.definitions.specs.Basics.{when◌then◌otherwise◌}
 use Rattle.definitions.specs.Refusals.{bad_token, other_expected, too_deep, most_text}
 use Rattle.definitions.specs.Scope.{Scope, in_message, in_entry, within, nests, body, map_entry}
 use Rattle.definitions.specs.Nodes.{words}
@@ -40,7 +40,7 @@ closed_at deep image (in_entry g) at n q key value = refl
 pub closer-none : (kind t : ℕ) → closer_for kind t ≡ 0 → opens kind t ≡ false
 closer-none kind t h = go (opens kind t) refl (eqb t open_brace) h
   where
-    go : (b : Bool) → opens kind t ≡ b → (d : Bool) → ◌≡◌ {A = ℕ} (if b then (λ _. if d then (λ _. 125) else λ _. 62) else λ _. 0) 0 → opens kind t ≡ false
+    go : (b : Bool) → opens kind t ≡ b → (d : Bool) → ◌≡◌ {A = ℕ} (when b then (λ _. when d then (λ _. 125) otherwise λ _. 62) otherwise λ _. 0) 0 → opens kind t ≡ false
     go true e true k = absurd (omega (arith, k))
     go true e false k = absurd (omega (arith, k))
     go false e d k = e
@@ -48,7 +48,7 @@ closer-none kind t h = go (opens kind t) refl (eqb t open_brace) h
 pub closer-some : (kind t : ℕ) → (closer_for kind t ≡ 0 → ⊥) → (opens kind t ≡ true) × (closer_for kind t ≡ closer_of t)
 closer-some kind t h = go (opens kind t) refl h
   where
-    go : (b : Bool) → opens kind t ≡ b → ((if b then (λ _. closer_of t) else λ _. 0) ≡ 0 → ⊥) → (b ≡ true) × (◌≡◌ {A = ℕ} (if b then (λ _. closer_of t) else λ _. 0) (closer_of t))
+    go : (b : Bool) → opens kind t ≡ b → ((when b then (λ _. closer_of t) otherwise λ _. 0) ≡ 0 → ⊥) → (b ≡ true) × (◌≡◌ {A = ℕ} (when b then (λ _. closer_of t) otherwise λ _. 0) (closer_of t))
     go true e k = (refl, refl)
     go false e k = absurd (k refl)
 

@@ -14,7 +14,7 @@ use borrow.Author.Tests.{ne_eqb, lt-ltb}
 use Rattle.definitions.specs.declared.Spot.{Spot}
 use Rattle.definitions.specs.declared.Place.{Place}
 use Rattle.definitions.specs.declared.Want.{Want}
-use Rattle.definitions.specs.Basics.{if◌then◌else◌, each, same}
+use Rattle.definitions.specs.Basics.{when◌then◌otherwise◌, each, same}
 use Rattle.definitions.specs.Refusals.{unknown_field, most_depth}
 use Rattle.definitions.specs.Image.{message_count, field_name, find_field}
 use Rattle.definitions.specs.Classes.{class, classes}
@@ -64,7 +64,7 @@ noted-is (in_entry g) i h q = refl
 -- no `key` or `value` a second time
 abbrev Fresh : Scope → ℕ → Bool → Bool → Type 0
 Fresh (in_message m) i kb vb = Unit {0}
-Fresh (in_entry g) i kb vb = (if eqb i 0 then (λ _. kb) else λ _. vb) ≡ false
+Fresh (in_entry g) i kb vb = (when eqb i 0 then (λ _. kb) otherwise λ _. vb) ≡ false
 
 abbrev pub Room : Scope → Tree → Bool → Bool → Type 0
 Room d nil kb vb = Unit {0}

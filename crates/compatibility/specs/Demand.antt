@@ -9,7 +9,7 @@
 use Rattle.std.specs.Prelude.{ℕ, suc, ◌+◌, ◌%◌, ◌≤◌, ◌≡◌, Bool, true, false, ◌&&◌, List, [], ◌∷◌, ◌++◌, ltb, leb, eqb, length}
 use Rattle.std.proofs.Math.Option.{Option, none, some}
 use Rattle.definitions.specs.declared.Want.{Want}
-use Rattle.definitions.specs.Basics.{if◌then◌else◌, each, part}
+use Rattle.definitions.specs.Basics.{when◌then◌otherwise◌, each, part}
 use Rattle.definitions.specs.Refusals.{given, denied, unknown_field, unknown_value, most_text}
 use Rattle.definitions.specs.Image.{accepted, is_message, find_number}
 use Rattle.definitions.specs.Extending.{extends}
@@ -67,7 +67,7 @@ spelled s y d first c (node r k v kids rest) at =
 -- the first that a schema lacks
 unfoldable pub lacking : List ℕ → List Spelled → Option Spelled
 lacking s [] = none
-lacking s (x ∷ xs) = if knows s x.name then (λ _. lacking s xs) else λ _. some x
+lacking s (x ∷ xs) = when knows s x.name then (λ _. lacking s xs) otherwise λ _. some x
 
 -- a schema has every one of some names
 unfoldable pub knows_all : List ℕ → List Name → Bool
@@ -82,7 +82,7 @@ refusal_of (value_named e name) = unknown_value
 -- ---- no unknown field and no unnamed enum number
 
 unfoldable pub has_name : List ℕ → Want → ℕ → Val → Bool
-has_name s w kind (number n) = if eqb kind enum then (λ _. is_some (find_number s w.reference (n % word32))) else λ _. true
+has_name s w kind (number n) = when eqb kind enum then (λ _. is_some (find_number s w.reference (n % word32))) otherwise λ _. true
 has_name s w kind (run bs) = true
 has_name s w kind inside = true
 

@@ -6,10 +6,10 @@ use Prim.Native.Char.{code}
 use Rattle.std.proofs.Math.Option.{Option, none, some}
 
 -- one of two, and only that one is computed
-infix 10 if◌then◌else◌
-abbrev pub if◌then◌else◌ : {A : Type 0} → Bool → (Unit {0} → A) → (Unit {0} → A) → A
-if true then a else b = a tt
-if false then a else b = b tt
+infix 10 when◌then◌otherwise◌
+abbrev pub when◌then◌otherwise◌ : {A : Type 0} → Bool → (Unit {0} → A) → (Unit {0} → A) → A
+when true then a otherwise b = a tt
+when false then a otherwise b = b tt
 
 -- the bytes of an ASCII text
 abbrev pub bytes : String → List ℕ
@@ -45,7 +45,7 @@ any (suc n) p = any n p || p n
 -- the first of n indices from i on that passes a test
 unfoldable pub find : (ℕ → Bool) → ℕ → ℕ → Option ℕ
 find p i zero = none
-find p i (suc n) = if p i then (λ _. some i) else λ _. find p (i + 1) n
+find p i (suc n) = when p i then (λ _. some i) otherwise λ _. find p (i + 1) n
 
 -- a list from the place a up to the place e
 abbrev pub part : List ℕ → ℕ → ℕ → List ℕ

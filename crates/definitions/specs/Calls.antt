@@ -3,16 +3,16 @@
 use Rattle.std.specs.Prelude.{ℕ, Bool, not, List}
 use Rattle.std.proofs.Math.Option.{Option, none, some}
 use Rattle.std.proofs.lemmas.List.Edits.{sets}
-use Rattle.definitions.specs.Basics.{if◌then◌else◌}
+use Rattle.definitions.specs.Basics.{when◌then◌otherwise◌}
 use Rattle.definitions.specs.Refusals.{Answer, given, denied, unplaced, bad_schema, no_message}
 use Rattle.definitions.specs.Image.{accepted, is_message}
 
 -- 1, 2, then the call's own first refusal, if its test fails
 unfoldable pub barred : List ℕ → ℕ → (Unit {0} → Bool) → ℕ → Option ℕ
 barred schema root test why =
-    if not (accepted schema) then (λ _. some bad_schema) else λ _.
-    if not (is_message schema root) then (λ _. some no_message) else λ _.
-    if not (test tt) then (λ _. some why) else λ _. none
+    when not (accepted schema) then (λ _. some bad_schema) otherwise λ _.
+    when not (is_message schema root) then (λ _. some no_message) otherwise λ _.
+    when not (test tt) then (λ _. some why) otherwise λ _. none
 
 abbrev pub unbarred : {A : Type 0} → Option ℕ → (Unit {0} → Answer A) → Answer A
 unbarred (some why) rest = denied why (unplaced 0)

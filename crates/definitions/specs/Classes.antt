@@ -1,7 +1,7 @@
 -- Byte classes stand in a table of 256 entries (T, H, "Tokens and grammar").
 -- The classes rise so that one comparison tells what goes on a name (9 and up) and what is plain inside a string (5 and up).
 use Rattle.std.specs.Prelude.{ℕ, Bool, ◌||◌, List, [], ◌∷◌, ltb, leb, eqb, get_or}
-use Rattle.definitions.specs.Basics.{if◌then◌else◌}
+use Rattle.definitions.specs.Basics.{when◌then◌otherwise◌}
 use Rattle.definitions.specs.Image.{letter, digit}
 
 abbrev pub zero_class : ℕ
@@ -49,16 +49,16 @@ is_symbol b =
 -- the rule of the table
 unfoldable pub class_rule : ℕ → ℕ
 class_rule b =
-    if eqb b 0 then (λ _. zero_class) else λ _.
-    if ltb 127 b then (λ _. high_class) else λ _.
-    if eqb b 92 then (λ _. slash_class) else λ _.
-    if eqb b 34 || eqb b 39 then (λ _. quote_class) else λ _.
-    if eqb b 10 then (λ _. newline_class) else λ _.
-    if is_space b then (λ _. space_class) else λ _.
-    if eqb b 35 then (λ _. comment_class) else λ _.
-    if is_symbol b then (λ _. symbol_class) else λ _.
-    if digit b then (λ _. digit_class) else λ _.
-    if letter b then (λ _. letter_class) else λ _.
+    when eqb b 0 then (λ _. zero_class) otherwise λ _.
+    when ltb 127 b then (λ _. high_class) otherwise λ _.
+    when eqb b 92 then (λ _. slash_class) otherwise λ _.
+    when eqb b 34 || eqb b 39 then (λ _. quote_class) otherwise λ _.
+    when eqb b 10 then (λ _. newline_class) otherwise λ _.
+    when is_space b then (λ _. space_class) otherwise λ _.
+    when eqb b 35 then (λ _. comment_class) otherwise λ _.
+    when is_symbol b then (λ _. symbol_class) otherwise λ _.
+    when digit b then (λ _. digit_class) otherwise λ _.
+    when letter b then (λ _. letter_class) otherwise λ _.
     other_class
 
 unfoldable pub classes : List ℕ

@@ -1,6 +1,6 @@
 -- A newer schema extends an older one (H, "Extending").
 use Rattle.std.specs.Prelude.{ℕ, zero, suc, ◌+◌, Bool, true, ◌&&◌, List, leb, eqb}
-use Rattle.definitions.specs.Basics.{if◌then◌else◌, same, all, any}
+use Rattle.definitions.specs.Basics.{when◌then◌otherwise◌, same, all, any}
 use Rattle.definitions.specs.Image.{message_count, enum_count, message, enumeration, field, member, field_name, member_name}
 
 -- equal name text, number, label, key type, type and reference
@@ -18,7 +18,7 @@ unfoldable pub embedded : (newer older : List ℕ) → (i n j left : ℕ) → Bo
 embedded newer older i zero j left = eqb left 0
 embedded newer older i (suc n) j zero = true
 embedded newer older i (suc n) j (suc left) =
-    if same_field newer older i j then (λ _. embedded newer older (i + 1) n (j + 1) left) else λ _. embedded newer older (i + 1) n j (suc left)
+    when same_field newer older i j then (λ _. embedded newer older (i + 1) n (j + 1) left) otherwise λ _. embedded newer older (i + 1) n j (suc left)
 
 unfoldable pub message_extends : (newer older : List ℕ) → ℕ → Bool
 message_extends newer older m =

@@ -5,7 +5,7 @@ use Rattle.std.proofs.Math.Option.{Option}
 use Rattle.definitions.specs.declared.Span.{Span}
 use Rattle.definitions.specs.declared.Field.{Field}
 use Rattle.definitions.specs.declared.Member.{Member}
-use Rattle.definitions.specs.Basics.{if◌then◌else◌, between, same, each, all, find}
+use Rattle.definitions.specs.Basics.{when◌then◌otherwise◌, between, same, each, all, find}
 use Rattle.definitions.specs.Refusals.{most_number}
 use Rattle.definitions.specs.Bits.{bits}
 
@@ -148,13 +148,13 @@ running f n size = all n (λ i. eqb (f i).first (total f i)) && eqb (total f n) 
 
 -- key type is 1 to 6 for a map, else 0
 abbrev pub key_good : Field → Bool
-key_good f = if is_map f then (λ _. between 1 6 f.key) else λ _. eqb f.key 0
+key_good f = when is_map f then (λ _. between 1 6 f.key) otherwise λ _. eqb f.key 0
 
 -- types 1 to 9; the reference is an enum or message that exists for types 8 and 9, else 0
 unfoldable pub type_good : List ℕ → Field → Bool
 type_good s f =
-    if eqb f.kind 8 then (λ _. ltb f.reference (enum_count s)) else λ _.
-    if eqb f.kind 9 then (λ _. ltb f.reference (message_count s)) else λ _.
+    when eqb f.kind 8 then (λ _. ltb f.reference (enum_count s)) otherwise λ _.
+    when eqb f.kind 9 then (λ _. ltb f.reference (message_count s)) otherwise λ _.
     between 1 7 f.kind && eqb f.reference 0
 
 unfoldable pub field_good : List ℕ → ℕ → Bool
@@ -199,7 +199,7 @@ records_good s =
     && all (enum_count s) (λ i. distinct (members_agree s) (enumeration s i))
 
 unfoldable pub accepted : List ℕ → Bool
-accepted s = if header_good s then (λ _. records_good s) else λ _. false
+accepted s = when header_good s then (λ _. records_good s) otherwise λ _. false
 
 -- a root is a message of the image
 unfoldable pub is_message : List ℕ → ℕ → Bool

@@ -3,7 +3,7 @@
 use Rattle.std.specs.Prelude.{ℕ, ◌%◌, Bool, true, false, List, [], ◌∷◌, ◌++◌, ltb, eqb}
 use Rattle.std.proofs.Math.Option.{Option, none, some}
 use Rattle.definitions.specs.declared.Want.{Want}
-use Rattle.definitions.specs.Basics.{if◌then◌else◌}
+use Rattle.definitions.specs.Basics.{when◌then◌otherwise◌}
 use Rattle.definitions.specs.Image.{field_name, member_name, find_number, find_field, find_member}
 use Rattle.definitions.specs.Scope.{Scope, in_message, in_entry, want, within, enum}
 use Rattle.definitions.specs.Nodes.{word32}
@@ -15,7 +15,7 @@ pub data Name : Type 0 where
 
 -- an unknown field has no name
 unfoldable pub name_of : List ℕ → Scope → ℕ → List Name
-name_of s (in_message m) r = if ltb r first_unknown then (λ _. field_named m (field_name s r) ∷ []) else λ _. []
+name_of s (in_message m) r = when ltb r first_unknown then (λ _. field_named m (field_name s r) ∷ []) otherwise λ _. []
 name_of s (in_entry g) r = []
 
 -- an unnamed number has none
@@ -25,7 +25,7 @@ member_named s e (some i) = value_named e (member_name s i) ∷ []
 
 unfoldable pub value_names : List ℕ → Want → ℕ → Val → List Name
 value_names s w kind (number n) =
-    if eqb kind enum then (λ _. member_named s w.reference (find_number s w.reference (n % word32))) else λ _. []
+    when eqb kind enum then (λ _. member_named s w.reference (find_number s w.reference (n % word32))) otherwise λ _. []
 value_names s w kind (run bs) = []
 value_names s w kind inside = []
 

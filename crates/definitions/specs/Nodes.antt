@@ -1,7 +1,7 @@
 -- The node table (H, "Node table"): five words a node, and the forest that the ends of the nodes make of a span.
 use Rattle.std.specs.Prelude.{ℕ, zero, suc, ◌+◌, ◌-◌, ◌*◌, ◌/◌, ◌%◌, ◌^◌, max, Bool, true, false, ◌&&◌, ◌||◌, List, [], ◌∷◌, ltb, leb, eqb, get_or, drop, take}
 use Rattle.definitions.specs.declared.Node.{Node}
-use Rattle.definitions.specs.Basics.{if◌then◌else◌}
+use Rattle.definitions.specs.Basics.{when◌then◌otherwise◌}
 use Rattle.definitions.specs.Scope.{nests, string, byte_string, unknown_u32, unknown_bytes}
 
 abbrev pub node_of : List ℕ → Node
@@ -40,7 +40,7 @@ low_of v = v % word32
 
 -- 32 bits sign-extended to 64
 unfoldable pub widen : ℕ → ℕ
-widen v = if ltb v half then (λ _. v) else λ _. v + (word64 - word32)
+widen v = when ltb v half then (λ _. v) otherwise λ _. v + (word64 - word32)
 
 -- strings and bytes: start and length in the pool
 unfoldable pub run_of : List ℕ → Node → List ℕ
@@ -62,7 +62,7 @@ pub data Forest : Type 0 where
 unfoldable pub grow : ℕ → List ℕ → ℕ → ℕ → Forest
 grow zero w i e = empty
 grow (suc f) w i e =
-    if ltb i e then (λ _. tree (node_at w i) (grow f w (i + 1) (node_at w i).end) (grow f w (node_at w i).end e)) else λ _. empty
+    when ltb i e then (λ _. tree (node_at w i) (grow f w (i + 1) (node_at w i).end) (grow f w (node_at w i).end e)) otherwise λ _. empty
 
 unfoldable pub forest : List ℕ → ℕ → ℕ → Forest
 forest w i e = grow (e - i) w i e
@@ -71,10 +71,10 @@ forest w i e = grow (e - i) w i e
 unfoldable pub tile_f : ℕ → List ℕ → ℕ → ℕ → Bool
 tile_f zero w i e = eqb i e
 tile_f (suc f) w i e =
-    if eqb i e then (λ _. true) else λ _.
-    if ltb i (node_at w i).end && leb (node_at w i).end e
+    when eqb i e then (λ _. true) otherwise λ _.
+    when ltb i (node_at w i).end && leb (node_at w i).end e
     then (λ _. tile_f f w (i + 1) (node_at w i).end && tile_f f w (node_at w i).end e)
-    else λ _. false
+    otherwise λ _. false
 
 unfoldable pub tiles : List ℕ → ℕ → ℕ → Bool
 tiles w i e = tile_f (e - i) w i e
@@ -82,4 +82,4 @@ tiles w i e = tile_f (e - i) w i e
 -- depth counts messages and entries
 unfoldable pub depth : Forest → ℕ
 depth empty = 0
-depth (tree n kids rest) = if nests n.kind then (λ _. max (suc (depth kids)) (depth rest)) else λ _. depth rest
+depth (tree n kids rest) = when nests n.kind then (λ _. max (suc (depth kids)) (depth rest)) otherwise λ _. depth rest

@@ -2,7 +2,7 @@
 use Rattle.std.specs.Prelude.{ℕ, zero, suc, ◌+◌, ◌-◌, ◌*◌, ◌/◌, ◌%◌, Bool, true, false, ◌||◌, List, [], ◌∷◌, ◌++◌, ltb, eqb, length, replicate}
 use Rattle.std.proofs.Math.Option.{Option, none, some}
 use Rattle.definitions.specs.declared.Want.{Want}
-use Rattle.definitions.specs.Basics.{if◌then◌else◌, bytes, between}
+use Rattle.definitions.specs.Basics.{when◌then◌otherwise◌, bytes, between}
 use Rattle.definitions.specs.Refusals.{Answer, given, denied, unplaced, bad_table, buffer_short}
 use Rattle.definitions.specs.Image.{member_name, find_number}
 use Rattle.definitions.specs.Scope.{Scope, in_message, want, within, name_in, i32, i64, bool, enum}
@@ -16,14 +16,14 @@ use Rattle.definitions.specs.Calls.{barred, unbarred, stored}
 -- a number's decimal digits, of which it has no more than the number itself and one
 unfoldable pub digits : ℕ → ℕ → List ℕ
 digits zero n = (48 + n) ∷ []
-digits (suc f) n = if ltb n 10 then (λ _. (48 + n) ∷ []) else λ _. digits f (n / 10) ++ ((48 + n % 10) ∷ [])
+digits (suc f) n = when ltb n 10 then (λ _. (48 + n) ∷ []) otherwise λ _. digits f (n / 10) ++ ((48 + n % 10) ∷ [])
 
 unfoldable pub decimal : ℕ → List ℕ
 decimal n = digits n n
 
 -- 64 bits in two's complement
 unfoldable pub signed_decimal : ℕ → List ℕ
-signed_decimal n = if ltb n (word64 / 2) then (λ _. decimal n) else λ _. 45 ∷ decimal (word64 - n)
+signed_decimal n = when ltb n (word64 / 2) then (λ _. decimal n) otherwise λ _. 45 ∷ decimal (word64 - n)
 
 -- ---- strings and bytes stand in `"`: \n \r \t \' \" \\ as escapes, other bytes 32 to 126 as they are, the rest in octal
 
@@ -32,11 +32,11 @@ slashed b = 92 ∷ b ∷ []
 
 unfoldable pub quote_byte : ℕ → List ℕ
 quote_byte b =
-    if eqb b 10 then (λ _. slashed 110) else λ _.
-    if eqb b 13 then (λ _. slashed 114) else λ _.
-    if eqb b 9 then (λ _. slashed 116) else λ _.
-    if eqb b 39 || eqb b 34 || eqb b 92 then (λ _. slashed b) else λ _.
-    if between 32 126 b then (λ _. b ∷ []) else λ _.
+    when eqb b 10 then (λ _. slashed 110) otherwise λ _.
+    when eqb b 13 then (λ _. slashed 114) otherwise λ _.
+    when eqb b 9 then (λ _. slashed 116) otherwise λ _.
+    when eqb b 39 || eqb b 34 || eqb b 92 then (λ _. slashed b) otherwise λ _.
+    when between 32 126 b then (λ _. b ∷ []) otherwise λ _.
     92 ∷ (48 + b / 64) ∷ (48 + b / 8 % 8) ∷ (48 + b % 8) ∷ []
 
 unfoldable pub quote_bytes : List ℕ → List ℕ
@@ -55,14 +55,14 @@ member_text s n (some i) = member_name s i
 
 unfoldable pub number_text : List ℕ → Want → ℕ → ℕ → List ℕ
 number_text s w kind n =
-    if eqb kind i32 || eqb kind i64 then (λ _. signed_decimal n) else λ _.
-    if eqb kind bool then (λ _. if eqb n 0 then (λ _. bytes "false") else λ _. bytes "true") else λ _.
-    if eqb kind enum then (λ _. member_text s n (find_number s w.reference (n % word32))) else λ _.
+    when eqb kind i32 || eqb kind i64 then (λ _. signed_decimal n) otherwise λ _.
+    when eqb kind bool then (λ _. when eqb n 0 then (λ _. bytes "false") otherwise λ _. bytes "true") otherwise λ _.
+    when eqb kind enum then (λ _. member_text s n (find_number s w.reference (n % word32))) otherwise λ _.
     decimal n
 
 -- a field's name; an unknown field's number stands in its place
 unfoldable pub label : List ℕ → Scope → ℕ → List ℕ
-label s c r = if ltb r first_unknown then (λ _. name_in s c r) else λ _. decimal (r - first_unknown)
+label s c r = when ltb r first_unknown then (λ _. name_in s c r) otherwise λ _. decimal (r - first_unknown)
 
 -- ---- styles
 
@@ -116,7 +116,7 @@ print_text s y root w pool = render s y 0 true (in_message root) (meaning s root
 -- ---- the answer: 1, 2, 15, 16
 
 abbrev pub print_fitted : ℕ → ℕ → Answer ℕ
-print_fitted room count = if ltb room count then (λ _. denied buffer_short (unplaced count)) else λ _. given count
+print_fitted room count = when ltb room count then (λ _. denied buffer_short (unplaced count)) otherwise λ _. given count
 
 unfoldable pub print_answer : (schema : List ℕ) (y : Style) (root : ℕ) (w pool : List ℕ) (room : ℕ) → Answer ℕ
 print_answer schema y root w pool room =

@@ -6,7 +6,7 @@ use Rattle.std.proofs.Math.Option.{Option, none, some}
 use Rattle.definitions.specs.declared.Spot.{Spot}
 use Rattle.definitions.specs.declared.Place.{Place}
 use Rattle.definitions.specs.declared.Want.{Want}
-use Rattle.definitions.specs.Basics.{if◌then◌else◌, bytes, same, part}
+use Rattle.definitions.specs.Basics.{when◌then◌otherwise◌, bytes, same, part}
 use Rattle.definitions.specs.Refusals.{Answer, given, denied, unplaced, text_too_long, bad_token, other_expected, unknown_field, unknown_value, twice, overflow, not_bool, bad_string, too_deep, nodes_short, pool_short, most_text, most_nodes, most_depth}
 use Rattle.definitions.specs.Image.{enumeration, member, find_member}
 use Rattle.definitions.specs.Calls.{barred, unbarred, stored}
@@ -48,12 +48,12 @@ nested w (refused why at) = refused why at
 abbrev pub integer_tok : List ℕ → Want → Bool → ℕ → Spot → Scan → Out
 integer_tok s w negative most q (bad p) = refused bad_token p
 integer_tok s w negative most q (token t n) =
-    if eqb t.kind integer_token
+    when eqb t.kind integer_token
     then (λ _.
-    if leb (integer_value (part s t.start.offset n)) most
+    when leb (integer_value (part s t.start.offset n)) most
     then (λ _. number_leaf w q n (signed negative (integer_value (part s t.start.offset n))))
-    else λ _. refused overflow t.start)
-    else λ _. refused other_expected t.start
+    otherwise λ _. refused overflow t.start)
+    otherwise λ _. refused other_expected t.start
 
 unfoldable pub unsigned : List ℕ → Want → ℕ → Spot → Out
 unsigned s w width q = integer_tok s w false (most_unsigned width) q (scan s q.at)
@@ -65,9 +65,9 @@ negated s w width q = integer_tok s w true (most_signed width true) q (scan s q.
 abbrev pub signed_tok : List ℕ → Want → ℕ → Spot → Scan → Out
 signed_tok s w width q (bad p) = refused bad_token p
 signed_tok s w width q (token t n) =
-    if eqb t.kind minus
+    when eqb t.kind minus
     then (λ _. negated s w width (moved n q))
-    else λ _. integer_tok s w false (most_signed width false) q (token t n)
+    otherwise λ _. integer_tok s w false (most_signed width false) q (token t n)
 
 -- only i32 and i64 take `-`
 unfoldable pub signed_value : List ℕ → Want → ℕ → Spot → Out
@@ -84,8 +84,8 @@ false_name = bytes "false"
 abbrev pub bool_tok : List ℕ → Want → Spot → Scan → Out
 bool_tok s w q (bad p) = refused bad_token p
 bool_tok s w q (token t n) =
-    if eqb t.kind name_token && same true_name (part s t.start.offset n) then (λ _. number_leaf w q n 1) else λ _.
-    if eqb t.kind name_token && same false_name (part s t.start.offset n) then (λ _. number_leaf w q n 0) else λ _.
+    when eqb t.kind name_token && same true_name (part s t.start.offset n) then (λ _. number_leaf w q n 1) otherwise λ _.
+    when eqb t.kind name_token && same false_name (part s t.start.offset n) then (λ _. number_leaf w q n 0) otherwise λ _.
     refused not_bool t.start
 
 unfoldable pub bool_value : List ℕ → Want → Spot → Out
@@ -100,9 +100,9 @@ member_found schema w q at n (some i) = number_leaf w q n (widen (member schema 
 abbrev pub enum_tok : List ℕ → List ℕ → Want → Spot → Scan → Out
 enum_tok schema s w q (bad p) = refused bad_token p
 enum_tok schema s w q (token t n) =
-    if eqb t.kind name_token
+    when eqb t.kind name_token
     then (λ _. member_found schema w q t.start n (find_member schema w.reference (part s t.start.offset n)))
-    else λ _. refused other_expected t.start
+    otherwise λ _. refused other_expected t.start
 
 unfoldable pub enum_value : List ℕ → List ℕ → Want → Spot → Out
 enum_value schema s w q = enum_tok schema s w q (scan s q.at)
@@ -113,14 +113,14 @@ enum_value schema s w q = enum_tok schema s w q (scan s q.at)
 abbrev pub decoded : Want → Spot → Place → ℕ → Option (List ℕ) → Out
 decoded w q at n none = refused bad_string at
 decoded w q at n (some bs) =
-    if eqb w.kind string && not (utf8 bs) then (λ _. refused bad_string at) else λ _. run_leaf w q n bs
+    when eqb w.kind string && not (utf8 bs) then (λ _. refused bad_string at) otherwise λ _. run_leaf w q n bs
 
 abbrev pub string_tok : List ℕ → Want → Spot → Scan → Out
 string_tok s w q (bad p) = refused bad_token p
 string_tok s w q (token t n) =
-    if eqb t.kind string_token
+    when eqb t.kind string_token
     then (λ _. decoded w q t.start n (decode (part s (t.start.offset + 1) (n - 1))))
-    else λ _. refused other_expected t.start
+    otherwise λ _. refused other_expected t.start
 
 unfoldable pub string_value : List ℕ → Want → Spot → Out
 string_value s w q = string_tok s w q (scan s q.at)
@@ -129,18 +129,18 @@ string_value s w q = string_tok s w q (scan s q.at)
 
 unfoldable pub scalar : List ℕ → List ℕ → Want → Spot → Out
 scalar schema s w q =
-    if eqb w.kind i32 then (λ _. signed_value s w 32 q) else λ _.
-    if eqb w.kind i64 then (λ _. signed_value s w 64 q) else λ _.
-    if eqb w.kind u32 then (λ _. unsigned s w 32 q) else λ _.
-    if eqb w.kind u64 then (λ _. unsigned s w 64 q) else λ _.
-    if eqb w.kind bool then (λ _. bool_value s w q) else λ _.
-    if eqb w.kind enum then (λ _. enum_value schema s w q) else λ _.
+    when eqb w.kind i32 then (λ _. signed_value s w 32 q) otherwise λ _.
+    when eqb w.kind i64 then (λ _. signed_value s w 64 q) otherwise λ _.
+    when eqb w.kind u32 then (λ _. unsigned s w 32 q) otherwise λ _.
+    when eqb w.kind u64 then (λ _. unsigned s w 64 q) otherwise λ _.
+    when eqb w.kind bool then (λ _. bool_value s w q) otherwise λ _.
+    when eqb w.kind enum then (λ _. enum_value schema s w q) otherwise λ _.
     string_value s w q
 
 abbrev pub colon_tok : List ℕ → List ℕ → Want → Spot → Scan → Out
 colon_tok schema s w q (bad p) = refused bad_token p
 colon_tok schema s w q (token t n) =
-    if eqb t.kind colon then (λ _. scalar schema s w (moved n q)) else λ _. refused other_expected t.start
+    when eqb t.kind colon then (λ _. scalar schema s w (moved n q)) otherwise λ _. refused other_expected t.start
 
 unfoldable pub after_name : List ℕ → List ℕ → Want → Spot → Out
 after_name schema s w q = colon_tok schema s w q (scan s q.at)
@@ -155,14 +155,14 @@ abbrev pub opens : ℕ → ℕ → Bool
 opens kind t = eqb t open_brace || (eqb kind body && eqb t open_angle)
 
 abbrev pub closer_of : ℕ → ℕ
-closer_of t = if eqb t open_brace then (λ _. close_brace) else λ _. close_angle
+closer_of t = when eqb t open_brace then (λ _. close_brace) otherwise λ _. close_angle
 
 abbrev pub opener_tok : Child → Want → Spot → Scan → Out
 opener_tok child w q (bad p) = refused bad_token p
 opener_tok child w q (token t n) =
-    if opens w.kind t.kind
+    when opens w.kind t.kind
     then (λ _. nested w (child w t.start (closer_of t.kind) (record { at = n; node = q.node + 1; byte = q.byte })))
-    else λ _. refused other_expected t.start
+    otherwise λ _. refused other_expected t.start
 
 unfoldable pub opened : Child → List ℕ → Want → Spot → Out
 opened child s w q = opener_tok child w q (scan s q.at)
@@ -170,14 +170,14 @@ opened child s w q = opener_tok child w q (scan s q.at)
 -- ---- a field, after its name
 
 unfoldable pub field : Child → List ℕ → List ℕ → Want → Spot → Out
-field child schema s w q = if nests w.kind then (λ _. opened child s w q) else λ _. after_name schema s w q
+field child schema s w q = when nests w.kind then (λ _. opened child s w q) otherwise λ _. after_name schema s w q
 
 -- ---- a missing key or value of an entry, as its default: 0, false, empty, the enum's first value, an empty message
 
 unfoldable pub default : List ℕ → Want → Spot → Out
 default schema w q =
-    if eqb w.kind string || eqb w.kind byte_string then (λ _. run_leaf w q q.at []) else λ _.
-    if eqb w.kind enum then (λ _. number_leaf w q q.at (widen (member schema (enumeration schema w.reference).first).number)) else λ _.
+    when eqb w.kind string || eqb w.kind byte_string then (λ _. run_leaf w q q.at []) otherwise λ _.
+    when eqb w.kind enum then (λ _. number_leaf w q q.at (widen (member schema (enumeration schema w.reference).first).number)) otherwise λ _.
     number_leaf w q q.at 0
 
 -- one after the other
@@ -186,12 +186,12 @@ joined (refused why at) rest = refused why at
 joined (done q w b) rest = ahead w b (rest q)
 
 abbrev pub unless : Bool → (Spot → Out) → Spot → Out
-unless there make q = if there then (λ _. done q [] []) else λ _. make q
+unless there make q = when there then (λ _. done q [] []) otherwise λ _. make q
 
 -- a default message too counts as a level: it is refused at the entry's closer
 unfoldable pub default_value : (deep : Bool) → Place → List ℕ → Want → Spot → Out
 default_value deep at schema w q =
-    if deep && eqb w.kind body then (λ _. refused too_deep at) else λ _. default schema w q
+    when deep && eqb w.kind body then (λ _. refused too_deep at) otherwise λ _. default schema w q
 
 -- an entry is closed: what is missing is appended, key first
 unfoldable pub closed : (deep : Bool) → List ℕ → Scope → Place → ℕ → Stand → Out
@@ -206,7 +206,7 @@ closed deep schema (in_entry g) at n h =
 -- `key` and `value` each at most once
 unfoldable pub again : Scope → ℕ → Stand → Bool
 again (in_message m) i h = false
-again (in_entry g) i h = if eqb i 0 then (λ _. h.key) else λ _. h.value
+again (in_entry g) i h = when eqb i 0 then (λ _. h.key) otherwise λ _. h.value
 
 unfoldable pub noted : Scope → ℕ → Stand → Spot → Stand
 noted (in_message m) i h q = record { spot = q; key = h.key; value = h.value }
@@ -219,14 +219,14 @@ turn_of c i h (refused why at) = stop (refused why at)
 abbrev pub named : Child → List ℕ → List ℕ → Scope → Stand → Place → ℕ → Option ℕ → Turn
 named child schema s c h at n none = stop (refused unknown_field at)
 named child schema s c h at n (some i) =
-    if again c i h then (λ _. stop (refused twice at)) else λ _.
+    when again c i h then (λ _. stop (refused twice at)) otherwise λ _.
     turn_of c i h (field child schema s (want schema c i) (moved n h.spot))
 
 abbrev pub item_tok : Child → (deep : Bool) → List ℕ → List ℕ → Scope → (closer : ℕ) → Stand → Scan → Turn
 item_tok child deep schema s c closer h (bad p) = stop (refused bad_token p)
 item_tok child deep schema s c closer h (token t n) =
-    if eqb t.kind closer then (λ _. stop (closed deep schema c t.start n h)) else λ _.
-    if eqb t.kind name_token then (λ _. named child schema s c h t.start n (find_in schema c (part s t.start.offset n))) else λ _.
+    when eqb t.kind closer then (λ _. stop (closed deep schema c t.start n h)) otherwise λ _.
+    when eqb t.kind name_token then (λ _. named child schema s c h t.start n (find_in schema c (part s t.start.offset n))) otherwise λ _.
     stop (refused other_expected t.start)
 
 unfoldable pub item : Child → (deep : Bool) → List ℕ → List ℕ → Scope → (closer : ℕ) → Stand → Turn
@@ -274,8 +274,8 @@ node_room count = min (count / 5) most_nodes
 abbrev pub fitted : ℕ → ℕ → Out → Answer Made
 fitted count size (refused why at) = denied why at
 fitted count size (done q w b) =
-    if ltb (node_room count) q.node then (λ _. denied nodes_short (unplaced q.node)) else λ _.
-    if ltb size q.byte then (λ _. denied pool_short (unplaced q.byte)) else λ _.
+    when ltb (node_room count) q.node then (λ _. denied nodes_short (unplaced q.node)) otherwise λ _.
+    when ltb size q.byte then (λ _. denied pool_short (unplaced q.byte)) otherwise λ _.
     given (record { nodes = q.node; bytes = q.byte })
 
 unfoldable pub read_answer : (schema : List ℕ) (root : ℕ) (s : List ℕ) (count size : ℕ) → Answer Made

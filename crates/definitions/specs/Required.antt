@@ -1,7 +1,7 @@
 -- The required check (R, "Refusal numbers" 17): a required field missing in a live message, root included.
 use Rattle.std.specs.Prelude.{ℕ, ◌+◌, Bool, true, ◌&&◌, ◌||◌, not, List}
 use Rattle.definitions.specs.declared.Span.{Span}
-use Rattle.definitions.specs.Basics.{if◌then◌else◌, all}
+use Rattle.definitions.specs.Basics.{when◌then◌otherwise◌, all}
 use Rattle.definitions.specs.Refusals.{Answer, given, denied, unplaced, bad_table, required_missing}
 use Rattle.definitions.specs.Image.{message, field, is_required}
 use Rattle.definitions.specs.Scope.{Scope, in_message, in_entry, want, within, nests}
@@ -21,9 +21,9 @@ filled_in s (in_entry g) t = true
 unfoldable pub filled_below : List ℕ → Scope → Tree → Bool
 filled_below s c nil = true
 filled_below s c (node r k v kids rest) =
-    (if nests k
+    (when nests k
     then (λ _. filled_in s (within (want s c r)) kids && filled_below s (within (want s c r)) kids)
-    else λ _. true)
+    otherwise λ _. true)
     && filled_below s c rest
 
 -- of live values
@@ -34,4 +34,4 @@ complete s c t = filled_in s c t && filled_below s c t
 unfoldable pub required_answer : (schema : List ℕ) (root : ℕ) (w pool : List ℕ) → Answer (Unit {0})
 required_answer schema root w pool =
     unbarred (barred schema root (λ _. valid schema root w pool) bad_table)
-    (λ _. if complete schema (in_message root) (meaning schema root w pool) then (λ _. given tt) else λ _. denied required_missing (unplaced 0))
+    (λ _. when complete schema (in_message root) (meaning schema root w pool) then (λ _. given tt) otherwise λ _. denied required_missing (unplaced 0))

@@ -4,7 +4,7 @@ use Rattle.std.specs.Prelude.{ℕ, ◌+◌, Bool, ◌&&◌, ◌||◌, List, ltb,
 use Rattle.std.proofs.Math.Option.{Option, none, some}
 use Rattle.definitions.specs.declared.Field.{Field}
 use Rattle.definitions.specs.declared.Want.{Want}
-use Rattle.definitions.specs.Basics.{if◌then◌else◌, bytes, same}
+use Rattle.definitions.specs.Basics.{when◌then◌otherwise◌, bytes, same}
 use Rattle.definitions.specs.Image.{is_map, field, field_name, message, find_field}
 
 -- kinds of nodes: 1 to 9 are the types, 10 a map entry, 11 to 13 unknown u32, u64 and bytes
@@ -61,13 +61,13 @@ value_name = bytes "value"
 -- a message's field; a map field asks for an entry of its own
 abbrev pub want_of : ℕ → Field → Want
 want_of i f =
-    if is_map f then (λ _. record { kind = map_entry; reference = i; field = i }) else λ _.
+    when is_map f then (λ _. record { kind = map_entry; reference = i; field = i }) otherwise λ _.
     record { kind = f.kind; reference = f.reference; field = i }
 
 -- an entry's key and value
 abbrev pub want_in : Field → ℕ → Want
 want_in f i =
-    if eqb i 0 then (λ _. record { kind = f.key; reference = 0; field = 0 }) else λ _.
+    when eqb i 0 then (λ _. record { kind = f.key; reference = 0; field = 0 }) otherwise λ _.
     record { kind = f.kind; reference = f.reference; field = 1 }
 
 unfoldable pub want : List ℕ → Scope → ℕ → Want
@@ -76,7 +76,7 @@ want s (in_entry g) i = want_in (field s g) i
 
 -- what a message or an entry has inside
 unfoldable pub within : Want → Scope
-within w = if eqb w.kind map_entry then (λ _. in_entry w.reference) else λ _. in_message w.reference
+within w = when eqb w.kind map_entry then (λ _. in_entry w.reference) otherwise λ _. in_message w.reference
 
 -- messages and entries hold nodes, all other kinds hold none
 abbrev pub nests : ℕ → Bool
@@ -89,11 +89,11 @@ has_field s (in_entry g) i = ltb i 2
 
 unfoldable pub name_in : List ℕ → Scope → ℕ → List ℕ
 name_in s (in_message m) i = field_name s i
-name_in s (in_entry g) i = if eqb i 0 then (λ _. key_name) else λ _. value_name
+name_in s (in_entry g) i = when eqb i 0 then (λ _. key_name) otherwise λ _. value_name
 
 -- the field of that name
 unfoldable pub find_in : List ℕ → Scope → List ℕ → Option ℕ
 find_in s (in_message m) name = find_field s m name
 find_in s (in_entry g) name =
-    if same key_name name then (λ _. some 0) else λ _.
-    if same value_name name then (λ _. some 1) else λ _. none
+    when same key_name name then (λ _. some 0) otherwise λ _.
+    when same value_name name then (λ _. some 1) otherwise λ _. none

@@ -1,7 +1,7 @@
 -- Escapes (T, H, "Tokens and grammar"): what the bytes between the quotes of a string stand for.
 use Rattle.std.specs.Prelude.{ℕ, zero, suc, ◌+◌, ◌*◌, min, Bool, List, [], ◌∷◌, ltb, eqb, length, take, drop, get_or}
 use Rattle.std.proofs.Math.Option.{Option, none, some}
-use Rattle.definitions.specs.Basics.{if◌then◌else◌, find}
+use Rattle.definitions.specs.Basics.{when◌then◌otherwise◌, find}
 use Rattle.definitions.specs.Integers.{front, octal_digit, hex_digit, worth}
 
 -- the escape letters and their bytes form one small constant table: \a \b \f \n \r \t \v \? \\ \' \"
@@ -24,7 +24,7 @@ up_to n p bs = min n (front p bs)
 
 -- a value over 255 is refused
 abbrev pub piece_of : ℕ → ℕ → Piece
-piece_of v count = if ltb v 256 then (λ _. piece v count) else λ _. bad_piece
+piece_of v count = when ltb v 256 then (λ _. piece v count) otherwise λ _. bad_piece
 
 -- one to three octal digits, from the backslash's next byte on
 unfoldable pub octal_piece : List ℕ → Piece
@@ -33,7 +33,7 @@ octal_piece bs = piece_of (worth 8 0 (take (up_to 3 octal_digit bs) bs)) (1 + up
 -- one or two hex digits, from the x's next byte on
 unfoldable pub hex_piece : List ℕ → Piece
 hex_piece bs =
-    if eqb (up_to 2 hex_digit bs) 0 then (λ _. bad_piece) else λ _.
+    when eqb (up_to 2 hex_digit bs) 0 then (λ _. bad_piece) otherwise λ _.
     piece_of (worth 16 0 (take (up_to 2 hex_digit bs) bs)) (2 + up_to 2 hex_digit bs)
 
 abbrev pub letter_piece : Option ℕ → Piece
@@ -44,12 +44,12 @@ letter_piece (some i) = piece (get_or escapes (2 * i + 1) 0) 2
 unfoldable pub escape_piece : List ℕ → Piece
 escape_piece [] = bad_piece
 escape_piece (b ∷ bs) =
-    if octal_digit b then (λ _. octal_piece (b ∷ bs)) else λ _.
-    if eqb b 120 then (λ _. hex_piece bs) else λ _.
+    when octal_digit b then (λ _. octal_piece (b ∷ bs)) otherwise λ _.
+    when eqb b 120 then (λ _. hex_piece bs) otherwise λ _.
     letter_piece (find_escape b)
 
 unfoldable pub first_piece : ℕ → List ℕ → Piece
-first_piece b bs = if eqb b 92 then (λ _. escape_piece bs) else λ _. piece b 1
+first_piece b bs = when eqb b 92 then (λ _. escape_piece bs) otherwise λ _. piece b 1
 
 abbrev pub before : ℕ → Option (List ℕ) → Option (List ℕ)
 before b none = none

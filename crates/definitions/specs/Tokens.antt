@@ -4,7 +4,7 @@ use Rattle.std.specs.Prelude.{ℕ, suc, ◌+◌, Bool, true, false, ◌&&◌, �
 use Rattle.std.proofs.Math.Option.{Option, none, some}
 use Rattle.definitions.specs.declared.Token.{Token}
 use Rattle.definitions.specs.declared.Place.{Place}
-use Rattle.definitions.specs.Basics.{if◌then◌else◌}
+use Rattle.definitions.specs.Basics.{when◌then◌otherwise◌}
 use Rattle.definitions.specs.Places.{place_of}
 use Rattle.definitions.specs.Classes.{class, goes_on, quote_class, newline_class, space_class, comment_class, symbol_class, digit_class, letter_class}
 use Rattle.definitions.specs.Integers.{front, integer_length, runs_on}
@@ -56,8 +56,8 @@ unfoldable pub gap : Bool → List ℕ → ℕ
 gap comment [] = 0
 gap true (b ∷ bs) = suc (gap (not (eqb b 10)) bs)
 gap false (b ∷ bs) =
-    if eqb (class b) space_class || eqb (class b) newline_class then (λ _. suc (gap false bs)) else λ _.
-    if eqb (class b) comment_class then (λ _. suc (gap true bs)) else λ _. 0
+    when eqb (class b) space_class || eqb (class b) newline_class then (λ _. suc (gap false bs)) otherwise λ _.
+    when eqb (class b) comment_class then (λ _. suc (gap true bs)) otherwise λ _. 0
 
 -- ---- strings: ended by the same quote, a backslash taking the next byte along, no newline or zero byte inside
 
@@ -69,8 +69,8 @@ one_more (some n) = some (suc n)
 unfoldable pub inside : ℕ → Bool → List ℕ → Option ℕ
 inside quote slashed [] = none
 inside quote slashed (b ∷ bs) =
-    if eqb b 10 || eqb b 0 then (λ _. none) else λ _.
-    if not slashed && eqb b quote then (λ _. some 0) else λ _.
+    when eqb b 10 || eqb b 0 then (λ _. none) otherwise λ _.
+    when not slashed && eqb b quote then (λ _. some 0) otherwise λ _.
     one_more (inside quote (not slashed && eqb b 92) bs)
 
 -- ---- the token that begins at the place p with the byte b
@@ -81,7 +81,7 @@ token_of kind p next = token (record { kind = kind; start = p }) next
 -- an integer directly followed by a letter, digit, `_` or `.` is bad
 unfoldable pub integer_scan : Place → ℕ → List ℕ → Scan
 integer_scan p b bs =
-    if runs_on (drop (integer_length b bs) (b ∷ bs)) then (λ _. bad p) else λ _. token_of integer_token p (p.offset + integer_length b bs)
+    when runs_on (drop (integer_length b bs) (b ∷ bs)) then (λ _. bad p) otherwise λ _. token_of integer_token p (p.offset + integer_length b bs)
 
 abbrev pub string_scan : Place → Option ℕ → Scan
 string_scan p none = bad p
@@ -90,10 +90,10 @@ string_scan p (some n) = token_of string_token p (p.offset + n + 2)
 unfoldable pub scan_from : Place → List ℕ → Scan
 scan_from p [] = token_of end_of_text p p.offset
 scan_from p (b ∷ bs) =
-    if eqb (class b) letter_class then (λ _. token_of name_token p (p.offset + 1 + front goes_on bs)) else λ _.
-    if eqb (class b) digit_class then (λ _. integer_scan p b bs) else λ _.
-    if eqb (class b) quote_class then (λ _. string_scan p (inside b false bs)) else λ _.
-    if eqb (class b) symbol_class then (λ _. token_of b p (p.offset + 1)) else λ _.
+    when eqb (class b) letter_class then (λ _. token_of name_token p (p.offset + 1 + front goes_on bs)) otherwise λ _.
+    when eqb (class b) digit_class then (λ _. integer_scan p b bs) otherwise λ _.
+    when eqb (class b) quote_class then (λ _. string_scan p (inside b false bs)) otherwise λ _.
+    when eqb (class b) symbol_class then (λ _. token_of b p (p.offset + 1)) otherwise λ _.
     bad p
 
 -- where the next token begins, from an offset on

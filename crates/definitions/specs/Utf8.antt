@@ -2,7 +2,7 @@
 -- forms, at most U+10FFFF).
 use Rattle.std.specs.Prelude.{ℕ, ◌-◌, Bool, List, [], ◌∷◌, eqb, leb}
 use Rattle.definitions.specs.declared.Utf8.{Utf8}
-use Rattle.definitions.specs.Basics.{if◌then◌else◌, between}
+use Rattle.definitions.specs.Basics.{when◌then◌otherwise◌, between}
 
 -- so many bytes are still to come, and the next one lies from low to high
 abbrev pub await : ℕ → ℕ → ℕ → Utf8
@@ -19,21 +19,21 @@ broken = await 1 1 0
 -- after a letter's first byte
 unfoldable pub lead : ℕ → Utf8
 lead b =
-    if leb b 127 then (λ _. whole) else λ _.
-    if between 194 223 b then (λ _. await 1 128 191) else λ _.
-    if eqb b 224 then (λ _. await 2 160 191) else λ _.
-    if between 225 236 b then (λ _. await 2 128 191) else λ _.
-    if eqb b 237 then (λ _. await 2 128 159) else λ _.
-    if between 238 239 b then (λ _. await 2 128 191) else λ _.
-    if eqb b 240 then (λ _. await 3 144 191) else λ _.
-    if between 241 243 b then (λ _. await 3 128 191) else λ _.
-    if eqb b 244 then (λ _. await 3 128 143) else λ _.
+    when leb b 127 then (λ _. whole) otherwise λ _.
+    when between 194 223 b then (λ _. await 1 128 191) otherwise λ _.
+    when eqb b 224 then (λ _. await 2 160 191) otherwise λ _.
+    when between 225 236 b then (λ _. await 2 128 191) otherwise λ _.
+    when eqb b 237 then (λ _. await 2 128 159) otherwise λ _.
+    when between 238 239 b then (λ _. await 2 128 191) otherwise λ _.
+    when eqb b 240 then (λ _. await 3 144 191) otherwise λ _.
+    when between 241 243 b then (λ _. await 3 128 191) otherwise λ _.
+    when eqb b 244 then (λ _. await 3 128 143) otherwise λ _.
     broken
 
 unfoldable pub step : Utf8 → ℕ → Utf8
 step u b =
-    if eqb u.left 0 then (λ _. lead b) else λ _.
-    if between u.low u.high b then (λ _. await (u.left - 1) 128 191) else λ _.
+    when eqb u.left 0 then (λ _. lead b) otherwise λ _.
+    when between u.low u.high b then (λ _. await (u.left - 1) 128 191) otherwise λ _.
     broken
 
 unfoldable pub steps : Utf8 → List ℕ → Utf8

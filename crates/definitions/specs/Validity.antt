@@ -1,7 +1,7 @@
 -- When a node table is valid (H, "Node table").
 use Rattle.std.specs.Prelude.{ℕ, ◌+◌, ◌-◌, ◌*◌, Bool, true, false, ◌&&◌, ◌||◌, List, ltb, leb, eqb, length}
 use Rattle.definitions.specs.declared.Node.{Node}
-use Rattle.definitions.specs.Basics.{if◌then◌else◌, between}
+use Rattle.definitions.specs.Basics.{when◌then◌otherwise◌, between}
 use Rattle.definitions.specs.Refusals.{most_nodes, most_depth, most_number}
 use Rattle.definitions.specs.Scope.{Scope, in_message, in_entry, want, within, has_field, nests, i32, u32, bool, string, enum, body, map_entry, unknown_u32}
 use Rattle.definitions.specs.Nodes.{node_at, table_end, half, word32, run_of, is_run, is_unknown, Forest, empty, tree, forest, tiles, depth}
@@ -10,22 +10,22 @@ use Rattle.definitions.specs.Utf8.{utf8}
 -- numbers lie in their type's range: i32 and enum sign-extended, u32 and kind 11 below 2^32, bool 0 or 1, the others any
 unfoldable pub in_range : ℕ → Node → Bool
 in_range kind n =
-    if eqb kind i32 || eqb kind enum then (λ _. eqb n.high (if ltb n.low half then (λ _. 0) else λ _. word32 - 1)) else λ _.
-    if eqb kind u32 || eqb kind unknown_u32 then (λ _. eqb n.high 0) else λ _.
-    if eqb kind bool then (λ _. eqb n.high 0 && leb n.low 1) else λ _.
+    when eqb kind i32 || eqb kind enum then (λ _. eqb n.high (when ltb n.low half then (λ _. 0) otherwise λ _. word32 - 1)) otherwise λ _.
+    when eqb kind u32 || eqb kind unknown_u32 then (λ _. eqb n.high 0) otherwise λ _.
+    when eqb kind bool then (λ _. eqb n.high 0 && leb n.low 1) otherwise λ _.
     true
 
 -- strings, bytes and kind 13 lie inside the pool, and strings are UTF-8
 unfoldable pub run_good : List ℕ → Node → Bool
 run_good pool n =
     leb (n.high + n.low) (length pool)
-    && (if eqb n.kind string then (λ _. utf8 (run_of pool n)) else λ _. true)
+    && (when eqb n.kind string then (λ _. utf8 (run_of pool n)) otherwise λ _. true)
 
 -- messages and entries have 0, 0
 unfoldable pub value_good : List ℕ → Node → Bool
 value_good pool n =
-    if nests n.kind then (λ _. eqb n.high 0 && eqb n.low 0) else λ _.
-    if is_run n.kind then (λ _. run_good pool n) else λ _.
+    when nests n.kind then (λ _. eqb n.high 0 && eqb n.low 0) otherwise λ _.
+    when is_run n.kind then (λ _. run_good pool n) otherwise λ _.
     in_range n.kind n
 
 -- a node that is no message and no entry has none below it
@@ -44,7 +44,7 @@ unknown_good (in_entry g) n = false
 -- fields are their message's, kinds match them
 unfoldable pub field_fits : List ℕ → Scope → Node → Bool
 field_fits s c n =
-    if is_unknown n.kind then (λ _. unknown_good c n) else λ _.
+    when is_unknown n.kind then (λ _. unknown_good c n) otherwise λ _.
     has_field s c n.field && eqb n.kind (want s c n.field).kind
 
 -- an entry has two children in either order, one with field 0 (the key), one with field 1 (the value)
@@ -55,7 +55,7 @@ is_pair (tree a ka (tree b kb empty)) = eqb (a.field + b.field) 1
 is_pair (tree a ka (tree b kb (tree d kd rest))) = false
 
 abbrev pub entry_good : ℕ → Forest → Bool
-entry_good kind kids = if eqb kind map_entry then (λ _. is_pair kids) else λ _. true
+entry_good kind kids = when eqb kind map_entry then (λ _. is_pair kids) otherwise λ _. true
 
 -- all nodes of a span that stand in a scope
 unfoldable pub forest_good : List ℕ → List ℕ → Scope → Forest → Bool
@@ -84,6 +84,6 @@ below w = forest w 1 (table_end w)
 
 unfoldable pub valid : List ℕ → ℕ → List ℕ → List ℕ → Bool
 valid s root w pool =
-    if root_good w && tiles w 1 (table_end w)
+    when root_good w && tiles w 1 (table_end w)
     then (λ _. forest_good s pool (in_message root) (below w) && leb (depth (below w)) most_depth)
-    else λ _. false
+    otherwise λ _. false

@@ -9,7 +9,7 @@ use lib.Dec.{leb, ltb, eqb}
 use borrow.Author.Tests.{eq-eqb, ne_eqb, ltb-true, le-leb, lt-ltb, eqb-true, eqb-false}
 use Rattle.definitions.specs.declared.Want.{Want}
 use Rattle.definitions.specs.declared.Field.{Field}
-use Rattle.definitions.specs.Basics.{if◌then◌else◌, same}
+use Rattle.definitions.specs.Basics.{when◌then◌otherwise◌, same}
 use Rattle.definitions.specs.Image.{accepted, field_count, message, field, is_map, find_field}
 use Rattle.definitions.specs.Scope.{Scope, in_message, in_entry, key_name, value_name, want, within, nests, has_field, find_in, map_entry, body}
 use Rattle.laws.proofs.Reach.{by-test}
@@ -54,7 +54,7 @@ unfolding find_in has_field
 found_inside image (in_message m) name i k = field-inside image m name i k
 found_inside image (in_entry g) name i k = go (same key_name name) (same value_name name) k
   where
-    go : (a b : Bool) → ◌≡◌ {A = Option ℕ} (if a then (λ _. some 0) else λ _. if b then (λ _. some 1) else λ _. none) (some i) → has_field image (in_entry g) i ≡ true
+    go : (a b : Bool) → ◌≡◌ {A = Option ℕ} (when a then (λ _. some 0) otherwise λ _. when b then (λ _. some 1) otherwise λ _. none) (some i) → has_field image (in_entry g) i ≡ true
     go true b e = let z : 0 ≡ i = cc in rw (← z) refl
     go false true e = let z : 1 ≡ i = cc in rw (← z) refl
     go false false e = let z : ◌≡◌ {A = ℕ} 0 1 = cc in absurd (omega arith)
@@ -117,7 +117,7 @@ module _ (image : List ℕ) (a : accepted image ≡ true) where
       key : (1 ≤ (field image g).key) × ((field image g).key ≤ 6)
       key = key-range (field image g) good.key m
 
-      go : (b : Bool) → Fits image (if b then (λ _. record { kind = (field image g).key; reference = 0; field = 0 }) else λ _. record { kind = (field image g).kind; reference = (field image g).reference; field = 1 })
+      go : (b : Bool) → Fits image (when b then (λ _. record { kind = (field image g).key; reference = 0; field = 0 }) otherwise λ _. record { kind = (field image g).kind; reference = (field image g).reference; field = 1 })
       go true = record {
         least = key.0;
         most = omega (arith, key.1);
@@ -143,7 +143,7 @@ module _ (image : List ℕ) (a : accepted image ≡ true) where
       kind : (1 ≤ (field image i).kind) × ((field image i).kind ≤ 9)
       kind = kind-range image (field image i) good.type
 
-      go : (b : Bool) → is_map (field image i) ≡ b → Fits image (if b then (λ _. record { kind = map_entry; reference = i; field = i }) else λ _. record { kind = (field image i).kind; reference = (field image i).reference; field = i })
+      go : (b : Bool) → is_map (field image i) ≡ b → Fits image (when b then (λ _. record { kind = map_entry; reference = i; field = i }) otherwise λ _. record { kind = (field image i).kind; reference = (field image i).reference; field = i })
       go true e = record {
         least = omega arith;
         most = omega arith;

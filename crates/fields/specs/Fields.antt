@@ -1,6 +1,6 @@
 -- What the print functions presume of a rank and of a value, and a value's text.
 use Rattle.std.specs.Prelude.{ℕ, ◌+◌, ◌<◌, ◌≤◌, ◌≡◌, Bool, true, false, List, [], eqb, length}
-use Rattle.definitions.specs.Basics.{if◌then◌else◌, bytes}
+use Rattle.definitions.specs.Basics.{when◌then◌otherwise◌, bytes}
 use Rattle.definitions.specs.declared.Node.{Node}
 use Rattle.definitions.specs.declared.Want.{Want}
 use Rattle.definitions.specs.Image.{enum_count}
@@ -18,7 +18,7 @@ abbrev pub Ranked : List ℕ → Scope → ℕ → Type 0
 Ranked s c r = r < first_unknown → has_field s c r ≡ true
 
 abbrev pub bool_text : ℕ → List ℕ
-bool_text n = if eqb n 0 then (λ _. bytes "false") else λ _. bytes "true"
+bool_text n = when eqb n 0 then (λ _. bytes "false") otherwise λ _. bytes "true"
 
 -- an enum's number is one of an enum of the schema
 abbrev pub Counted : List ℕ → Want → ℕ → Type 0

@@ -10,7 +10,7 @@ use lib.Dec.{leb, eqb, lit≤}
 use lib.ListN.{length, get_or, drop, drop_of_length-le}
 use lib.Seq.{drop-cons}
 use borrow.Author.Tests.{le-leb, lt-leb, eq-eqb, ne_eqb, leb-false}
-use Rattle.definitions.specs.Basics.{if◌then◌else◌}
+use Rattle.definitions.specs.Basics.{when◌then◌otherwise◌}
 use Rattle.definitions.specs.Nodes.{word64}
 use Rattle.definitions.specs.Integers.{digit_value, hex_digit, hex_ahead, worth, integer_value, signed}
 use Rattle.integers.specs.declared.answers.Integer.{Integer}
@@ -53,7 +53,7 @@ pub digit_value-le : (b : ℕ) → digit_value b ≤ b
 unfolding digit_value
 digit_value-le b = go (leb 97 b) (leb 65 b)
   where
-    go : (lower letter : Bool) → (if lower then (λ _. b - 87) else λ _. if letter then (λ _. b - 55) else λ _. b - 48) ≤ b
+    go : (lower letter : Bool) → (when lower then (λ _. b - 87) otherwise λ _. when letter then (λ _. b - 55) otherwise λ _. b - 48) ≤ b
     go true letter = omega arith
     go false true = omega arith
     go false false = omega arith
@@ -122,7 +122,7 @@ module _ (negative : Bool) (most v : ℕ) where
   unfolding integer_of
   told_over e = go (leb v most) refl e
     where
-      go : (t : Bool) → leb v most ≡ t → (if t then (λ _. Worth (signed negative v)) else λ _. Over) ≡ Over → most < v
+      go : (t : Bool) → leb v most ≡ t → (when t then (λ _. Worth (signed negative v)) otherwise λ _. Over) ≡ Over → most < v
       go true h r = let z : ◌≡◌ {A = ℕ} 0 1 = cc in absurd (omega arith)
       go false h r = leb-false v most h
 
@@ -130,7 +130,7 @@ module _ (negative : Bool) (most v : ℕ) where
   unfolding integer_of
   told-worth w e = go (leb v most) e
     where
-      go : (t : Bool) → (if t then (λ _. Worth (signed negative v)) else λ _. Over) ≡ Worth w → w ≡ signed negative v
+      go : (t : Bool) → (when t then (λ _. Worth (signed negative v)) otherwise λ _. Over) ≡ Worth w → w ≡ signed negative v
       go true r = cc
       go false r = let z : ◌≡◌ {A = ℕ} 0 1 = cc in absurd (omega arith)
 

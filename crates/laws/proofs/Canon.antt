@@ -6,7 +6,7 @@ use mathlib.Core.Path.{◌≡◌, refl, sym, ap, ap₂, ◌∙◌}
 use mathlib.Core.List.{List}
 use lib.Dec.{eqb, leb}
 use borrow.Author.Tests.{eqb-true}
-use Rattle.definitions.specs.Basics.{if◌then◌else◌, all}
+use Rattle.definitions.specs.Basics.{when◌then◌otherwise◌, all}
 use Rattle.definitions.specs.Image.{message, field, is_required}
 use Rattle.definitions.specs.Scope.{Scope, in_message, in_entry, want, within, nests}
 use Rattle.definitions.specs.Live.{Val, Tree, nil, node, has, key_of, has_key, sharing, replaced, insert, canon}
@@ -87,13 +87,13 @@ filled_in-canon s c (in_entry g) t = refl
 
 -- what is asked of one value: of a message or an entry, its required fields and those below
 abbrev pub filled_at : List ℕ → Scope → (r k : ℕ) → (kids : Tree) → Bool
-filled_at s c r k kids = if nests k then (λ _. complete s (within (want s c r)) kids) else λ _. true
+filled_at s c r k kids = when nests k then (λ _. complete s (within (want s c r)) kids) otherwise λ _. true
 
 -- the same of every value that no later sibling replaces, of its live values
 unfoldable pub live_below : List ℕ → Scope → Tree → Bool
 live_below s c nil = true
 live_below s c (node r k v kids rest) =
-    (if replaced (sharing s c r) r kids rest then (λ _. true) else λ _. filled_at s c r k (canon s (within (want s c r)) kids)) && live_below s c rest
+    (when replaced (sharing s c r) r kids rest then (λ _. true) otherwise λ _. filled_at s c r k (canon s (within (want s c r)) kids)) && live_below s c rest
 
 filled_below-insert : (s : List ℕ) (c : Scope) (r k : ℕ) (v : Val) (kids t : Tree)
     → filled_below s c (insert r k v kids t) ≡ (filled_at s c r k kids && filled_below s c t)

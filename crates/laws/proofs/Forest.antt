@@ -8,7 +8,7 @@ use mathlib.Core.Path.{◌≡◌, refl, sym, ap₂, ◌∙◌}
 use mathlib.Core.List.{List}
 use lib.Dec.{eqb, ltb, leb}
 use borrow.Author.Tests.{ltb-true, ltb-false, leb-true, lt-ltb, le-ltb, le-leb, eq-eqb, ne_eqb}
-use Rattle.definitions.specs.Basics.{if◌then◌else◌}
+use Rattle.definitions.specs.Basics.{when◌then◌otherwise◌}
 use Rattle.definitions.specs.Nodes.{node_at, empty, tree, grow, forest, tile_f, tiles}
 use Rattle.laws.proofs.Lists.{and_parts, and-made, true-false, never_true}
 
@@ -73,7 +73,7 @@ module _ (w : List ℕ) where
   tiles-none i = tile_f-enough (i - i) 0 i i (omega arith) (omega arith) ∙ eq-eqb i i refl
 
   pub tiles-some : (i e : ℕ) → i < e
-      → tiles w i e ≡ (if end_fits w i e then (λ _. tiles w (i + 1) (end_of w i) && tiles w (end_of w i) e) else λ _. false)
+      → tiles w i e ≡ (when end_fits w i e then (λ _. tiles w (i + 1) (end_of w i) && tiles w (end_of w i) e) otherwise λ _. false)
   unfolding tiles tile_f
   tiles-some i e h =
       tile_f-enough (e - i) (suc (e - i)) i e (omega arith) (omega arith)
@@ -81,8 +81,8 @@ module _ (w : List ℕ) where
     where
       go : (b : Bool) → end_fits w i e ≡ b
           → ◌≡◌ {A = Bool}
-          (if end_fits w i e then (λ _. tile_f (e - i) w (i + 1) (end_of w i) && tile_f (e - i) w (end_of w i) e) else λ _. false)
-          (if end_fits w i e then (λ _. tiles w (i + 1) (end_of w i) && tiles w (end_of w i) e) else λ _. false)
+          (when end_fits w i e then (λ _. tile_f (e - i) w (i + 1) (end_of w i) && tile_f (e - i) w (end_of w i) e) otherwise λ _. false)
+          (when end_fits w i e then (λ _. tiles w (i + 1) (end_of w i) && tiles w (end_of w i) e) otherwise λ _. false)
       go true q =
           let x = fits-parts i e q in
           rw q

@@ -12,7 +12,7 @@ use lib.Pow.{pow_pos, pow_mono}
 use borrow.Author.Tests.{ltb-true, ltb-false, lt-ltb, le-ltb, eqb-true, eq-eqb}
 use Rattle.definitions.specs.declared.Node.{Node}
 use Rattle.definitions.specs.declared.Want.{Want}
-use Rattle.definitions.specs.Basics.{if◌then◌else◌}
+use Rattle.definitions.specs.Basics.{when◌then◌otherwise◌}
 use Rattle.definitions.specs.Scope.{i32, i64, u32, u64, enum}
 use Rattle.definitions.specs.Nodes.{half, word32, word64, number_of, high_of, low_of, widen}
 use Rattle.definitions.specs.Validity.{in_range}
@@ -100,7 +100,7 @@ signed_decimal-minus n h = rw (le-ltb n (word64 / 2) h)
 
 -- a sign and a magnitude as print has them: 0 has no minus
 abbrev pub sign_text : Bool → ℕ → List ℕ
-sign_text negative v = if negative && ltb 0 v then (λ _. 45 ∷ decimal v) else λ _. decimal v
+sign_text negative v = when negative && ltb 0 v then (λ _. 45 ∷ decimal v) otherwise λ _. decimal v
 
 pub signed_decimal-signed : (w : ℕ) (negative : Bool) (v : ℕ) → w ≤ 64 → v ≤ most_signed w negative → signed_decimal (signed negative v) ≡ sign_text negative v
 signed_decimal-signed w false v h k =
@@ -173,7 +173,7 @@ low_of-number m l = omega arith
 
 -- in range: i32 and enum are 32 bits sign-extended, u32 lies below 2^32, i64 and u64 are any
 module _ (m : Node) (n : ℕ) (h : m.high ≡ high_of n) (l : m.low ≡ low_of n) where
-  pub signed_in-extended : SignedIn 32 n → eqb m.high (if ltb m.low half then (λ _. 0) else λ _. word32 - 1) ≡ true
+  pub signed_in-extended : SignedIn 32 n → eqb m.high (when ltb m.low half then (λ _. 0) otherwise λ _. word32 - 1) ≡ true
   signed_in-extended (inl k) =
       rw (h, l, lt-ltb (low_of n) half (omega arith)) (eq-eqb (high_of n) 0 (omega arith))
   signed_in-extended (inr k) =

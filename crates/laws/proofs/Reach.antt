@@ -12,7 +12,7 @@ use lib.ListN.{length, drop, length-drop}
 use borrow.Author.Tests.{eqb-true, leb-true, eq-eqb, ltb-true, ltb-false}
 use Rattle.definitions.specs.declared.Token.{Token}
 use Rattle.definitions.specs.declared.Place.{Place}
-use Rattle.definitions.specs.Basics.{if◌then◌else◌, between, all}
+use Rattle.definitions.specs.Basics.{when◌then◌otherwise◌, between, all}
 use Rattle.definitions.specs.Places.{place_of}
 use Rattle.definitions.specs.Image.{digit}
 use Rattle.definitions.specs.Classes.{class, classes, is_symbol, goes_on, symbol_class, digit_class, letter_class, quote_class, space_class, newline_class, comment_class}
@@ -23,7 +23,7 @@ use Rattle.definitions.specs.Tokens.{Scan, token, bad, gap, inside, one_more, to
 
 -- a choice, by cases
 pub by-test : {A : Type 0} (P : A → Type 0) (t : Bool) (a b : Unit {0} → A) → (t ≡ true → P (a tt)) → (t ≡ false → P (b tt))
-    → P (if t then a else b)
+    → P (when t then a otherwise b)
 by-test P true a b h i = h refl
 by-test P false a b h i = i refl
 

@@ -7,7 +7,7 @@ use mathlib.Core.List.{List, [], ◌∷◌, ◌++◌}
 use lib.Dec.{leb, eqb, leb-suc-zero}
 use borrow.Author.Tests.{eqb-true}
 use Rattle.definitions.specs.declared.Utf8.{Utf8}
-use Rattle.definitions.specs.Basics.{if◌then◌else◌, between, each}
+use Rattle.definitions.specs.Basics.{when◌then◌otherwise◌, between, each}
 use Rattle.definitions.specs.Utf8.{await, whole, broken, lead, step, steps, utf8}
 use Rattle.laws.proofs.Lists.{and_parts}
 
@@ -41,7 +41,7 @@ pub record Fine (u : Utf8) : Type 0 where
   pub high : u.high < 256
   pub ends : u.left ≡ 0 → u ≡ whole
 
-fine-if : (t : Bool) (u v : Utf8) → Fine u → Fine v → Fine (if t then (λ _. u) else λ _. v)
+fine-if : (t : Bool) (u v : Utf8) → Fine u → Fine v → Fine (when t then (λ _. u) otherwise λ _. v)
 fine-if true u v h k = h
 fine-if false u v h k = k
 

@@ -12,7 +12,7 @@ use Rattle.definitions.specs.declared.Place.{Place}
 use Rattle.definitions.specs.declared.Spot.{Spot}
 use Rattle.definitions.specs.declared.Token.{Token}
 use Rattle.definitions.specs.declared.Want.{Want}
-use Rattle.definitions.specs.Basics.{if◌then◌else◌, same, part}
+use Rattle.definitions.specs.Basics.{when◌then◌otherwise◌, same, part}
 use Rattle.definitions.specs.Refusals.{most_text, bad_token, other_expected, unknown_value, overflow, not_bool, bad_string}
 use Rattle.definitions.specs.Image.{member, enumeration, find_member}
 use Rattle.definitions.specs.Scope.{i32, i64, u32, u64, bool, string, byte_string, enum}
@@ -72,7 +72,7 @@ pub over-is : (negative : Bool) (most v : ℕ) → number.Over ≡ integer_of ne
 unfolding integer_of
 over-is negative most v e = go (leb v most) refl e
   where
-    go : (b : Bool) → leb v most ≡ b → number.Over ≡ (if b then (λ _. number.Worth (signed negative v)) else λ _. number.Over) → leb v most ≡ false
+    go : (b : Bool) → leb v most ≡ b → number.Over ≡ (when b then (λ _. number.Worth (signed negative v)) otherwise λ _. number.Over) → leb v most ≡ false
     go true h k = let z : ◌≡◌ {A = ℕ} 0 1 = cc in absurd (omega arith)
     go false h k = h
 
@@ -80,7 +80,7 @@ pub worth-is : (negative : Bool) (most v x : ℕ) → number.Worth x ≡ integer
 unfolding integer_of
 worth-is negative most v x e = go (leb v most) refl e
   where
-    go : (b : Bool) → leb v most ≡ b → number.Worth x ≡ (if b then (λ _. number.Worth (signed negative v)) else λ _. number.Over) → (leb v most ≡ true) × (x ≡ signed negative v)
+    go : (b : Bool) → leb v most ≡ b → number.Worth x ≡ (when b then (λ _. number.Worth (signed negative v)) otherwise λ _. number.Over) → (leb v most ≡ true) × (x ≡ signed negative v)
     go true h k = (h, cc)
     go false h k = let z : ◌≡◌ {A = ℕ} 0 1 = cc in absurd (omega arith)
 

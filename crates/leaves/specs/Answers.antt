@@ -4,7 +4,7 @@ use Rattle.std.proofs.lemmas.List.Edits.{sets}
 use Rattle.definitions.specs.declared.Spot.{Spot}
 use Rattle.definitions.specs.declared.Token.{Token}
 use Rattle.definitions.specs.declared.Want.{Want}
-use Rattle.definitions.specs.Basics.{if◌then◌else◌}
+use Rattle.definitions.specs.Basics.{when◌then◌otherwise◌}
 use Rattle.definitions.specs.Refusals.{bad_token, other_expected, most_text}
 use Rattle.definitions.specs.Image.{message_count, field_count, enum_count, field, is_map}
 use Rattle.definitions.specs.Scope.{i32, u32, enum, body, map_entry, within, has_field}
@@ -33,14 +33,14 @@ bad_of (step.Token t c) = answer.No other_expected t.start
 
 -- the bits of a signed type, and of an unsigned one
 abbrev pub signed_width : ℕ → ℕ
-signed_width kind = if eqb kind i32 then (λ _. 32) else λ _. 64
+signed_width kind = when eqb kind i32 then (λ _. 32) otherwise λ _. 64
 
 abbrev pub unsigned_width : ℕ → ℕ
-unsigned_width kind = if eqb kind u32 then (λ _. 32) else λ _. 64
+unsigned_width kind = when eqb kind u32 then (λ _. 32) otherwise λ _. 64
 
 -- node k's words stored, where the table has room for them
 unfoldable pub put_at : List ℕ → ℕ → List ℕ → List ℕ
-put_at e k w = if ltb k (length e / 5) then (λ _. sets e (5 * k) w) else λ _. e
+put_at e k w = when ltb k (length e / 5) then (λ _. sets e (5 * k) w) otherwise λ _. e
 
 -- ---- what is presumed
 
@@ -84,7 +84,7 @@ Inside image w i = has_field image (within w) i ≡ true
 
 -- the closer that matches an opener, 0 for what is no opener
 abbrev pub closer_for : ℕ → ℕ → ℕ
-closer_for kind t = if opens kind t then (λ _. closer_of t) else λ _. 0
+closer_for kind t = when opens kind t then (λ _. closer_of t) otherwise λ _. 0
 
 -- a token lies inside the text
 pub record Reached (s : List ℕ) (t : Token) (n : ℕ) : Type 0 where

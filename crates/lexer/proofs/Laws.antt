@@ -12,7 +12,7 @@ use lib.Dec.{ltb, leb, eqb}
 use lib.ListN.{length, get_or, drop, drop_of_length-le}
 use lib.Seq.{drop-cons, drop-drop}
 use borrow.Author.Tests.{eq-eqb, ne_eqb, eqb-true, eqb-false, lt-ltb, ltb-true, leb-true}
-use Rattle.definitions.specs.Basics.{if◌then◌else◌, between}
+use Rattle.definitions.specs.Basics.{when◌then◌otherwise◌, between}
 use Rattle.definitions.specs.declared.Place.{Place}
 use Rattle.definitions.specs.Places.{newline, place_of}
 use Rattle.definitions.specs.Image.{digit}
@@ -104,7 +104,7 @@ unfolding hex_ahead front
 hex-ahead x [] = sym (and-false (eqb x 120 || eqb x 88))
 hex-ahead x (d ∷ bs) = go (hex_digit d)
   where
-    go : (t : Bool) → ((eqb x 120 || eqb x 88) && t) ≡ (eqb x 120 || eqb x 88) && ltb 0 (if t then (λ _. suc (front hex_digit bs)) else λ _. 0)
+    go : (t : Bool) → ((eqb x 120 || eqb x 88) && t) ≡ (eqb x 120 || eqb x 88) && ltb 0 (when t then (λ _. suc (front hex_digit bs)) otherwise λ _. 0)
     go true = simp (lt-ltb 0 (suc (front hex_digit bs)) (omega arith))
     go false = refl
 
@@ -155,7 +155,7 @@ unfolding integer_length
 not-empty b bs = go (eqb b 48) (hex_ahead bs)
   where
     go : (t u : Bool)
-        → 0 < (if t then (λ _. if u then (λ _. 2 + front hex_digit (drop 1 bs)) else λ _. 1 + front octal_digit bs) else λ _. 1 + front digit bs)
+        → 0 < (when t then (λ _. when u then (λ _. 2 + front hex_digit (drop 1 bs)) otherwise λ _. 1 + front octal_digit bs) otherwise λ _. 1 + front digit bs)
     go true true = omega arith
     go true false = omega arith
     go false u = omega arith

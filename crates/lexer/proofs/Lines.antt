@@ -12,7 +12,7 @@ use lib.ListN.{length, get_or, take, drop, length-drop, length-take}
 use lib.Seq.{drop-cons, length-take-le, take-suc}
 use borrow.Author.Tests.{eq-eqb, ne_eqb, eqb-true, eqb-false}
 use Rattle.definitions.specs.declared.Place.{Place}
-use Rattle.definitions.specs.Basics.{if◌then◌else◌}
+use Rattle.definitions.specs.Basics.{when◌then◌otherwise◌}
 use Rattle.definitions.specs.Refusals.{most_text}
 use Rattle.definitions.specs.Image.{digit}
 use Rattle.definitions.specs.Classes.{class, classes, goes_on, newline_class, quote_class, symbol_class, digit_class, letter_class}
@@ -34,8 +34,8 @@ newlines-append [] ys = omega arith
 newlines-append (x ∷ xs) ys = go (eqb x newline) (newlines-append xs ys)
   where
     go : (t : Bool) → newlines (xs ++ ys) ≡ newlines xs + newlines ys
-        → (if t then (λ _. suc (newlines (xs ++ ys))) else λ _. newlines (xs ++ ys))
-        ≡ (if t then (λ _. suc (newlines xs)) else λ _. newlines xs) + newlines ys
+        → (when t then (λ _. suc (newlines (xs ++ ys))) otherwise λ _. newlines (xs ++ ys))
+        ≡ (when t then (λ _. suc (newlines xs)) otherwise λ _. newlines xs) + newlines ys
     go true h = omega arith
     go false h = h
 
@@ -45,8 +45,8 @@ behind-append n [] ys = refl
 behind-append n (x ∷ xs) ys = go (eqb x newline) (behind-append 0 xs ys) (behind-append (suc n) xs ys)
   where
     go : (t : Bool) → behind 0 (xs ++ ys) ≡ behind (behind 0 xs) ys → behind (suc n) (xs ++ ys) ≡ behind (behind (suc n) xs) ys
-        → (if t then (λ _. behind 0 (xs ++ ys)) else λ _. behind (suc n) (xs ++ ys))
-        ≡ behind (if t then (λ _. behind 0 xs) else λ _. behind (suc n) xs) ys
+        → (when t then (λ _. behind 0 (xs ++ ys)) otherwise λ _. behind (suc n) (xs ++ ys))
+        ≡ behind (when t then (λ _. behind 0 xs) otherwise λ _. behind (suc n) xs) ys
     go true h k = h
     go false h k = k
 

@@ -3,7 +3,7 @@
 use Rattle.std.specs.Prelude.{◌≡◌, ℕ, suc, ◌+◌, ◌-◌, ◌≤◌, ◌<◌, Bool, ◌||◌, List, [], ◌∷◌, eqb, length, get_or}
 use Rattle.std.proofs.Math.Option.{Option, none, some}
 use Rattle.definitions.specs.declared.Place.{Place}
-use Rattle.definitions.specs.Basics.{if◌then◌else◌}
+use Rattle.definitions.specs.Basics.{when◌then◌otherwise◌}
 use Rattle.definitions.specs.Refusals.{most_text}
 use Rattle.definitions.specs.Places.{newline, place_of}
 use Rattle.definitions.specs.Tokens.{Scan, token, bad}
@@ -51,7 +51,7 @@ step_of s (bad p) = step.Bad p
 -- how many bytes the rest of a comment takes, up to its newline
 unfoldable pub comment : List ℕ → ℕ
 comment [] = 0
-comment (b ∷ bs) = if eqb b newline then (λ _. 0) else λ _. suc (comment bs)
+comment (b ∷ bs) = when eqb b newline then (λ _. 0) otherwise λ _. suc (comment bs)
 
 -- what a string may not hold, after a backslash either: the newline and the zero byte
 abbrev pub breaks : ℕ → Bool

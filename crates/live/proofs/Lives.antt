@@ -9,7 +9,7 @@ use borrow.Author.Tests.{eqb-true, eqb-false, eq-eqb, ne_eqb, le-leb, lt-leb, le
 use Rattle.definitions.specs.declared.Node.{Node}
 use Rattle.definitions.specs.declared.Want.{Want}
 use Rattle.definitions.specs.declared.Field.{Field}
-use Rattle.definitions.specs.Basics.{if◌then◌else◌, same}
+use Rattle.definitions.specs.Basics.{when◌then◌otherwise◌, same}
 use Rattle.definitions.specs.Image.{field, is_map, is_repeated}
 use Rattle.definitions.specs.Scope.{Scope, in_message, in_entry, want, within, nests, map_entry}
 use Rattle.definitions.specs.Nodes.{node_at, is_run, is_unknown, run_of, number_of, forest}
@@ -38,7 +38,7 @@ module _ (s : List ℕ) (w : Want) (n : Node) where
         rw (within-message w h, rank-unknown n k, le-leb 4096 (4096 + n.field) (omega arith))
 
     module _ (k : is_unknown n.kind ≡ false) (l : n.field < 4096) (f : Field) (e : f ≡ field s n.field) where
-      known-sharing : sharing s (within w) (rank_of n) ≡ (if is_repeated f then (λ _. 2) else λ _. if is_map f then (λ _. 1) else λ _. 0)
+      known-sharing : sharing s (within w) (rank_of n) ≡ (when is_repeated f then (λ _. 2) otherwise λ _. when is_map f then (λ _. 1) otherwise λ _. 0)
       unfolding sharing
       known-sharing = rw (within-message w h, rank-known n k, lt-leb 4096 n.field l, e)
 

@@ -7,7 +7,7 @@ use mathlib.Core.Path.{◌≡◌, refl, sym, ◌∙◌}
 use mathlib.Core.List.{List}
 use lib.Dec.{eqb}
 use borrow.Author.Tests.{eqb-true, eqb-false, eq-eqb, ne_eqb}
-use Rattle.definitions.specs.Basics.{if◌then◌else◌}
+use Rattle.definitions.specs.Basics.{when◌then◌otherwise◌}
 use Rattle.definitions.specs.Scope.{Scope, in_message, in_entry, want, within, map_entry}
 use Rattle.definitions.specs.Nodes.{node_at, table_end, is_unknown, forest}
 use Rattle.definitions.specs.Validity.{is_pair, valid}
@@ -83,7 +83,7 @@ module _ (s pool : List ℕ) (g : ℕ) (w : List ℕ) (i e : ℕ) (x : Sound s p
 
   -- the child that is the key
   abbrev key_child : ℕ
-  key_child = if eqb (node_at w i).field 0 then (λ _. i) else λ _. end_of w i
+  key_child = when eqb (node_at w i).field 0 then (λ _. i) otherwise λ _. end_of w i
 
   pub pair-key-is : (value_of pool (node_at w key_child) ≡ key_of (tree_of pool (forest w i e))) × Kept pool (node_at w key_child)
   pair-key-is = go (eqb (node_at w i).field 0) refl

@@ -1,7 +1,7 @@
 -- Live, of a node where it stands in a table: an entry's key, and whether a later sibling takes a node's place.
 use Rattle.std.specs.Prelude.{ℕ, ◌+◌, ◌*◌, ◌≤◌, ◌≡◌, Bool, true, not, List, eqb, length}
 use Rattle.definitions.specs.declared.Node.{Node}
-use Rattle.definitions.specs.Basics.{if◌then◌else◌}
+use Rattle.definitions.specs.Basics.{when◌then◌otherwise◌}
 use Rattle.definitions.specs.Scope.{Scope}
 use Rattle.definitions.specs.Nodes.{node_at, is_run, forest, tiles}
 use Rattle.definitions.specs.Validity.{is_pair}
@@ -13,7 +13,7 @@ pub record Kept (pool : List ℕ) (n : Node) : Type 0 where
 
 -- where an entry's key stands
 unfoldable pub key_at : List ℕ → ℕ → ℕ
-key_at w i = if eqb (node_at w (i + 1)).field 0 then (λ _. i + 1) else λ _. (node_at w (i + 1)).end
+key_at w i = when eqb (node_at w (i + 1)).field 0 then (λ _. i + 1) otherwise λ _. (node_at w (i + 1)).end
 
 -- an entry's key
 unfoldable pub key_in : List ℕ → List ℕ → ℕ → Val

@@ -11,7 +11,7 @@ use Rattle.definitions.specs.declared.Node.{Node}
 use Rattle.definitions.specs.declared.Want.{Want}
 use Rattle.definitions.specs.declared.Span.{Span}
 use Rattle.definitions.specs.declared.Field.{Field}
-use Rattle.definitions.specs.Basics.{if◌then◌else◌, all}
+use Rattle.definitions.specs.Basics.{when◌then◌otherwise◌, all}
 use Rattle.definitions.specs.Image.{field_count, message, field, is_required, accepted}
 use Rattle.definitions.specs.Scope.{Scope, in_message, want, within, has_field, nests, map_entry}
 use Rattle.definitions.specs.Nodes.{node_at, table_end, forest, tiles}
@@ -142,9 +142,9 @@ module _ (s pool : List ℕ) (c : Scope) (w : List ℕ) (from to i : ℕ) (x : W
 
   module _ (h : i < to) (n : Node) (e : n ≡ node_at w i) where
     walk-some : live_below s c (from_on pool w i to)
-        ≡ ((if replaced_at s pool c w i to
+        ≡ ((when replaced_at s pool c w i to
         then (λ _. true)
-        else λ _. filled_at s c (rank_of (node_at w i)) (node_at w i).kind (canon s (within (want s c (rank_of (node_at w i)))) (kids_of pool w i)))
+        otherwise λ _. filled_at s c (rank_of (node_at w i)) (node_at w i).kind (canon s (within (want s c (rank_of (node_at w i)))) (kids_of pool w i)))
         && live_below s c (from_on pool w (end_of w i) to))
     unfolding live_below
     walk-some = rw (tree-some pool w i to h x.sound.tiled)
@@ -174,9 +174,9 @@ module _ (s pool : List ℕ) (c : Scope) (w : List ℕ) (from to i : ℕ) (x : W
         plain = rw e at k
 
         go : (b : Bool) → replaced_at s pool c w i to ≡ b
-            → ((if replaced_at s pool c w i to
+            → ((when replaced_at s pool c w i to
             then (λ _. true)
-            else λ _. filled_at s c (rank_of (node_at w i)) (node_at w i).kind (canon s (within (want s c (rank_of (node_at w i)))) (kids_of pool w i)))
+            otherwise λ _. filled_at s c (rank_of (node_at w i)) (node_at w i).kind (canon s (within (want s c (rank_of (node_at w i)))) (kids_of pool w i)))
             && live_below s c (from_on pool w (end_of w i) to))
             ≡ live_below s c (from_on pool w (end_of w i) to)
         go true q = rw q

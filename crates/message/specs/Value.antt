@@ -1,6 +1,6 @@
 -- Access to a value of a valid table: the run of the pool that a node stands for.
 use Rattle.std.specs.Prelude.{ℕ, ◌+◌, ◌≤◌, ◌≡◌, true, List, [], length}
-use Rattle.definitions.specs.Basics.{if◌then◌else◌}
+use Rattle.definitions.specs.Basics.{when◌then◌otherwise◌}
 use Rattle.definitions.specs.Nodes.{node_at, run_of}
 use Rattle.definitions.specs.Validity.{root_good}
 use Rattle.definitions.specs.Access.{is_value}
@@ -14,8 +14,8 @@ pub record Lendable (w pool : List ℕ) : Type 0 where
 
 -- a value's start and length
 unfoldable pub value_run : List ℕ → ℕ → Run
-value_run w i = if is_value w i then (λ _. run.At (node_at w i).high (node_at w i).low) else λ _. run.Nothing
+value_run w i = when is_value w i then (λ _. run.At (node_at w i).high (node_at w i).low) otherwise λ _. run.Nothing
 
 -- a value's bytes, none where there is no value
 unfoldable pub lent_run : List ℕ → List ℕ → ℕ → List ℕ
-lent_run w pool i = if is_value w i then (λ _. run_of pool (node_at w i)) else λ _. []
+lent_run w pool i = when is_value w i then (λ _. run_of pool (node_at w i)) otherwise λ _. []

@@ -1,7 +1,7 @@
 -- What the functions over a table presume of a scope, and what is good of a span of nodes.
 use Rattle.std.specs.Prelude.{ℕ, ◌+◌, ◌*◌, ◌≤◌, ◌<◌, ◌≡◌, Bool, true, false, ◌&&◌, ◌||◌, List, ltb, leb, length}
 use Rattle.definitions.specs.declared.Node.{Node}
-use Rattle.definitions.specs.Basics.{if◌then◌else◌}
+use Rattle.definitions.specs.Basics.{when◌then◌otherwise◌}
 use Rattle.definitions.specs.Image.{message_count, field_count}
 use Rattle.definitions.specs.Scope.{Scope, in_message, in_entry, has_field, nests}
 use Rattle.definitions.specs.Nodes.{forest, tiles, depth}
@@ -19,7 +19,7 @@ Inside s c i = has_field s c i ≡ true
 -- the nodes from one up to another tile the span and are good in a scope, messages and entries at most so deep
 unfoldable pub span_good : (s pool : List ℕ) → Scope → (left : ℕ) → (w : List ℕ) → (i e : ℕ) → Bool
 span_good s pool c left w i e =
-    if tiles w i e then (λ _. forest_good s pool c (forest w i e) && leb (depth (forest w i e)) left) else λ _. false
+    when tiles w i e then (λ _. forest_good s pool c (forest w i e) && leb (depth (forest w i e)) left) otherwise λ _. false
 
 -- node i of a span up to e in a scope, but for what lies below it: its end lies in the span, its field and value are good, and
 -- a node that is no message and no entry has none below it

@@ -11,7 +11,7 @@ use lib.Seq.{get_or-drop, get_or-take}
 use borrow.Author.Tests.{ltb-true, ltb-false}
 use Rattle.definitions.specs.declared.Node.{Node}
 use Rattle.definitions.specs.declared.Want.{Want}
-use Rattle.definitions.specs.Basics.{if◌then◌else◌, bytes}
+use Rattle.definitions.specs.Basics.{when◌then◌otherwise◌, bytes}
 use Rattle.definitions.specs.Image.{names_at, name_text, field_name, member_name, field, member, find_number, field_at, member_at}
 use Rattle.definitions.specs.Scope.{Scope, in_message, in_entry, want, within, name_in, nests}
 use Rattle.definitions.specs.Nodes.{node_at, table_end, word32, word64, number_of, run_of, is_run, is_unknown, tiles}
@@ -133,18 +133,18 @@ number-length : (s : List ℕ) (w : Want) (k n : ℕ) → n < 2 ^ 64 → length 
 unfolding number_text
 number-length s w k n h = signed (eqb k 1 || eqb k 2) refl
   where
-    named : (x : Bool) → eqb k 8 ≡ x → length (if eqb k 8 then (λ _. member_text s n (find_number s w.reference (n % word32))) else λ _. decimal n) ≤ 64
+    named : (x : Bool) → eqb k 8 ≡ x → length (when eqb k 8 then (λ _. member_text s n (find_number s w.reference (n % word32))) otherwise λ _. decimal n) ≤ 64
     named true e = rw e (member-text s n (find_number s w.reference (n % word32)) h)
     named false e = rw e (omega (arith, decimal-few n (omega arith)))
 
-    zero_or_not : (x : Bool) → eqb n 0 ≡ x → length (if eqb n 0 then (λ _. bytes "false") else λ _. bytes "true") ≤ 64
+    zero_or_not : (x : Bool) → eqb n 0 ≡ x → length (when eqb n 0 then (λ _. bytes "false") otherwise λ _. bytes "true") ≤ 64
     zero_or_not true e = rw e (omega arith)
     zero_or_not false e = rw e (omega arith)
 
     truth : (x : Bool) → eqb k 5 ≡ x
         → length
-        (if eqb k 5 then (λ _. if eqb n 0 then (λ _. bytes "false") else λ _. bytes "true") else λ _.
-        if eqb k 8 then (λ _. member_text s n (find_number s w.reference (n % word32))) else λ _. decimal n) ≤ 64
+        (when eqb k 5 then (λ _. when eqb n 0 then (λ _. bytes "false") otherwise λ _. bytes "true") otherwise λ _.
+        when eqb k 8 then (λ _. member_text s n (find_number s w.reference (n % word32))) otherwise λ _. decimal n) ≤ 64
     truth true e = rw e (zero_or_not (eqb n 0) refl)
     truth false e = rw e (named (eqb k 8) refl)
 

@@ -1,6 +1,6 @@
 -- What the print functions presume of a span of nodes, and what the print of a part of it leaves.
 use Rattle.std.specs.Prelude.{ℕ, ◌+◌, ◌-◌, ◌<◌, ◌^◌, ◌≡◌, Bool, ◌&&◌, List}
-use Rattle.definitions.specs.Basics.{if◌then◌else◌}
+use Rattle.definitions.specs.Basics.{when◌then◌otherwise◌}
 use Rattle.definitions.specs.declared.Node.{Node}
 use Rattle.definitions.specs.declared.Want.{Want}
 use Rattle.definitions.specs.Scope.{want, within}
@@ -13,7 +13,7 @@ use Rattle.spelling.specs.Written.{Written}
 
 -- what the field of a node asks for in the scope inside w; an unknown field asks for nothing, and w stands in for it
 abbrev pub asked_of : List ℕ → Want → Node → Want
-asked_of s w n = if is_unknown n.kind then (λ _. w) else λ _. want s (within w) n.field
+asked_of s w n = when is_unknown n.kind then (λ _. w) otherwise λ _. want s (within w) n.field
 
 -- what is printed: a span of nodes of a valid table, at a depth, in the scope inside q
 pub record Printable (s : List ℕ) (l : Layout) (pool w : List ℕ) (q : Want) (d i e : ℕ) : Type 0 where

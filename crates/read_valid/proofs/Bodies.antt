@@ -11,7 +11,7 @@ use borrow.Author.Tests.{eqb-true, eqb-false, ltb-true, lt-ltb}
 use Rattle.definitions.specs.declared.Spot.{Spot}
 use Rattle.definitions.specs.declared.Place.{Place}
 use Rattle.definitions.specs.declared.Want.{Want}
-use Rattle.definitions.specs.Basics.{if◌then◌else◌, same, part}
+use Rattle.definitions.specs.Basics.{when◌then◌otherwise◌, same, part}
 use Rattle.definitions.specs.Image.{field, is_map}
 use Rattle.definitions.specs.Scope.{Scope, in_message, in_entry, want, within, has_field, find_in, nests, key_name, value_name, body, map_entry}
 use Rattle.definitions.specs.Live.{inside, Tree, nil, node}
@@ -53,7 +53,7 @@ two-both (node a k v t (node b l x y nil)) h r = omega arith
 two-both (node a k v t (node b l x y (node e m z o p))) h r = omega arith
 
 -- one more: a key if there was none, or a value if there was none
-lacks-more : (i : ℕ) (key value : Bool) (n r : ℕ) → i < 2 → (if eqb i 0 then (λ _. key) else λ _. value) ≡ false
+lacks-more : (i : ℕ) (key value : Bool) (n r : ℕ) → i < 2 → (when eqb i 0 then (λ _. key) otherwise λ _. value) ≡ false
     → (n + mark (key || eqb i 0) + mark (value || eqb i 1) ≡ 2) × (r + mark (value || eqb i 1) ≡ 1)
     → (suc n + mark key + mark value ≡ 2) × (i + r + mark value ≡ 1)
 lacks-more zero true value n r l e h = true-false true refl e
@@ -101,7 +101,7 @@ module _ (schema s : List ℕ) (ok : Accepted schema) (left : ℕ) where
 
   -- in an entry: a key, or a value, that it lacked
   entry-rest : (g i : ℕ) (key value : Bool) (u t : Tree) → has_field schema (in_entry g) i ≡ true
-      → (if eqb i 0 then (λ _. key) else λ _. value) ≡ false → One schema left (want schema (in_entry g) i) u
+      → (when eqb i 0 then (λ _. key) otherwise λ _. value) ≡ false → One schema left (want schema (in_entry g) i) u
       → Rest (in_entry g) (key || eqb i 0) (value || eqb i 1) t → Rest (in_entry g) key value (beside u t)
   unfolding beside count ranks has_field
   entry-rest g i key value u t has e (one right kids) r = (

@@ -12,7 +12,7 @@ use borrow.Author.Tests.{ltb-true, ltb-false}
 use Rattle.definitions.specs.declared.Spot.{Spot}
 use Rattle.definitions.specs.declared.Place.{Place}
 use Rattle.definitions.specs.declared.Node.{Node}
-use Rattle.definitions.specs.Basics.{if◌then◌else◌}
+use Rattle.definitions.specs.Basics.{when◌then◌otherwise◌}
 use Rattle.definitions.specs.Refusals.{Answer, given, denied, unplaced, bad_schema, no_message, text_too_long, bad_table, buffer_short, required_missing, no_value, most_text, most_depth}
 use Rattle.definitions.specs.Image.{accepted, is_message, message_count}
 use Rattle.definitions.specs.Scope.{in_message, body}
@@ -177,7 +177,7 @@ denied-good why p n at e = let z : why ≡ bad_table = cc in n z
 
 -- given, or refused by another number
 either-good : {A : Type 0} (b : Bool) (a : A) (why : ℕ) (p : Place) → (why ≡ bad_table → ⊥)
-    → NotBadTable (if b then (λ _. given a) else λ _. denied why p)
+    → NotBadTable (when b then (λ _. given a) otherwise λ _. denied why p)
 either-good true a why p n = given-good a
 either-good false a why p n = denied-good why p n
 

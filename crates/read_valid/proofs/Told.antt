@@ -8,7 +8,7 @@ use mathlib.Core.Option.{Option, none, some}
 use native.Mathlib.Omega.{arith}
 use lib.Dec.{ltb, leb}
 use lib.ListN.{length}
-use Rattle.definitions.specs.Basics.{if◌then◌else◌}
+use Rattle.definitions.specs.Basics.{when◌then◌otherwise◌}
 use Rattle.definitions.specs.Refusals.{Answer, given, denied, unplaced, bad_table, buffer_short, required_missing, no_value, most_text}
 use Rattle.definitions.specs.Image.{accepted, is_message}
 use Rattle.definitions.specs.Scope.{in_message}
@@ -68,11 +68,11 @@ unbarred-bare (some why) rest x = bare 0
 fitted-bare : (room count : ℕ) → Untold {A = ℕ} (print_fitted room count)
 fitted-bare room count = go (ltb room count)
   where
-    go : (b : Bool) → Untold {A = ℕ} (if b then (λ _. denied buffer_short (unplaced count)) else λ _. given count)
+    go : (b : Bool) → Untold {A = ℕ} (when b then (λ _. denied buffer_short (unplaced count)) otherwise λ _. given count)
     go true = bare count
     go false = tt
 
-either-bare : {A : Type 0} (b : Bool) (a : A) (why : ℕ) → Untold {A = A} (if b then (λ _. given a) else λ _. denied why (unplaced 0))
+either-bare : {A : Type 0} (b : Bool) (a : A) (why : ℕ) → Untold {A = A} (when b then (λ _. given a) otherwise λ _. denied why (unplaced 0))
 either-bare true a why = tt
 either-bare false a why = bare 0
 
@@ -86,12 +86,12 @@ pub required-untold : (schema : List ℕ) (root : ℕ) (w pool : List ℕ) → U
 unfolding required_answer
 required-untold schema root w pool =
     unbarred-bare {A = Unit {0}} (barred schema root (λ _. valid schema root w pool) bad_table)
-    (λ _. if complete schema (in_message root) (meaning schema root w pool) then (λ _. given tt) else λ _. denied required_missing (unplaced 0))
+    (λ _. when complete schema (in_message root) (meaning schema root w pool) then (λ _. given tt) otherwise λ _. denied required_missing (unplaced 0))
     (either-bare (complete schema (in_message root) (meaning schema root w pool)) tt required_missing)
 
 pub value-untold : (schema : List ℕ) (root : ℕ) (w pool : List ℕ) (i : ℕ) → Untold {A = List ℕ} (value_answer schema root w pool i)
 unfolding value_answer
 value-untold schema root w pool i =
     unbarred-bare {A = List ℕ} (barred schema root (λ _. valid schema root w pool) bad_table)
-    (λ _. if is_value w i then (λ _. given (run_of pool (node_at w i))) else λ _. denied no_value (unplaced 0))
+    (λ _. when is_value w i then (λ _. given (run_of pool (node_at w i))) otherwise λ _. denied no_value (unplaced 0))
     (either-bare (is_value w i) (run_of pool (node_at w i)) no_value)

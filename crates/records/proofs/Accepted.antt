@@ -10,7 +10,7 @@ use lib.ListN.{length}
 use borrow.Author.Tests.{eqb-true, leb-true, ltb-true, ltb-false, eqb-false, eq-eqb, ne_eqb, not-true}
 use Rattle.definitions.specs.declared.Span.{Span}
 use Rattle.definitions.specs.declared.Field.{Field}
-use Rattle.definitions.specs.Basics.{if◌then◌else◌, between, same, all}
+use Rattle.definitions.specs.Basics.{when◌then◌otherwise◌, between, same, all}
 use Rattle.definitions.specs.Bits.{bits}
 use Rattle.definitions.specs.Refusals.{most_number}
 use Rattle.definitions.specs.Image.{form, message_count, field_count, enum_count, value_count, name_count, image_length, message, enumeration, field, member, field_at, field_zero, member_at, member_zero, is_map, identifier, name_text, name_good, running, key_good, type_good, field_good, member_good, distinct, fields_agree, members_agree, header_good, records_good, accepted, field_name, member_name, find_field, find_member, find_number}
@@ -83,7 +83,7 @@ module _ (s : List ℕ) (good : accepted s ≡ true) where
   unfolding accepted
   accepted-both = go (header_good s) good
     where
-      go : (b : Bool) → (if b then (λ _. records_good s) else λ _. false) ≡ true → (b ≡ true) × (records_good s ≡ true)
+      go : (b : Bool) → (when b then (λ _. records_good s) otherwise λ _. false) ≡ true → (b ≡ true) × (records_good s ≡ true)
       go true e = (refl, e)
       go false e = true-false false e refl
 

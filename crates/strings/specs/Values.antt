@@ -1,7 +1,7 @@
 -- What an answer says of a string: of a piece of it, and of the whole.
 use Rattle.std.specs.Prelude.{ℕ, zero, suc, Bool, ◌&&◌, not, List, [], ◌∷◌, eqb, length, drop}
 use Rattle.std.proofs.Math.Option.{Option, none, some}
-use Rattle.definitions.specs.Basics.{if◌then◌else◌}
+use Rattle.definitions.specs.Basics.{when◌then◌otherwise◌}
 use Rattle.definitions.specs.Integers.{octal_digit, hex_digit}
 use Rattle.definitions.specs.Strings.{Piece, piece, bad_piece, first_piece}
 use Rattle.definitions.specs.Utf8.{utf8}
@@ -13,7 +13,7 @@ use Rattle.strings.specs.declared.Decoded.TheVariants as decoded
 
 -- the digits of an escape: hex, or octal
 unfoldable pub digit_in : Bool → ℕ → Bool
-digit_in hex b = if hex then (λ _. hex_digit b) else λ _. octal_digit b
+digit_in hex b = when hex then (λ _. hex_digit b) otherwise λ _. octal_digit b
 
 -- a letter of one byte that stands for itself: no backslash
 abbrev pub plain : ℕ → Bool

@@ -5,7 +5,7 @@ use mathlib.Core.Bool.{Bool, true, false, ◌&&◌, ◌||◌, not}
 use mathlib.Core.Path.{◌≡◌, refl, sym, ap, ap₂, ◌∙◌}
 use mathlib.Core.List.{List}
 use mathlib.Core.Option.{Option, none, some}
-use Rattle.definitions.specs.Basics.{if◌then◌else◌, all, find}
+use Rattle.definitions.specs.Basics.{when◌then◌otherwise◌, all, find}
 use Rattle.definitions.specs.Image.{message, field, is_required}
 use Rattle.definitions.specs.Scope.{Scope, in_message, in_entry, want, within, nests}
 use Rattle.definitions.specs.Validity.{below}
@@ -65,11 +65,11 @@ none_in s (in_entry g) t = refl
 -- of one value: what lacks in it, if it is a message or an entry that no later sibling replaces
 abbrev in_one : List ℕ → Scope → (r k : ℕ) → (gone : Bool) → (kids : Tree) → Option ℕ
 in_one s c r k gone kids =
-    if nests k && not gone then (λ _. lacking_in s (within (want s c r)) kids or_else λ _. lacking_below s (within (want s c r)) kids) else λ _. none
+    when nests k && not gone then (λ _. lacking_in s (within (want s c r)) kids or_else λ _. lacking_below s (within (want s c r)) kids) otherwise λ _. none
 
 none-one : (s : List ℕ) (c : Scope) (r k : ℕ) (gone : Bool) (kids : Tree)
     → is_none (lacking_below s (within (want s c r)) kids) ≡ live_below s (within (want s c r)) kids
-    → is_none (in_one s c r k gone kids) ≡ (if gone then (λ _. true) else λ _. filled_at s c r k (canon s (within (want s c r)) kids))
+    → is_none (in_one s c r k gone kids) ≡ (when gone then (λ _. true) otherwise λ _. filled_at s c r k (canon s (within (want s c r)) kids))
 none-one s c r k gone kids ih = go (nests k) refl gone
   where
     inner : is_none (lacking_in s (within (want s c r)) kids or_else λ _. lacking_below s (within (want s c r)) kids)
@@ -80,7 +80,7 @@ none-one s c r k gone kids ih = go (nests k) refl gone
         ∙ sym (complete-canon s (within (want s c r)) kids)
 
     go : (n : Bool) → nests k ≡ n → (g : Bool)
-        → is_none (in_one s c r k g kids) ≡ (if g then (λ _. true) else λ _. filled_at s c r k (canon s (within (want s c r)) kids))
+        → is_none (in_one s c r k g kids) ≡ (when g then (λ _. true) otherwise λ _. filled_at s c r k (canon s (within (want s c r)) kids))
     go true e true = rw e
     go true e false = rw e inner
     go false e true = rw e

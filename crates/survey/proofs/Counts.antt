@@ -8,7 +8,7 @@ use lib.Dec.{eqb, leb}
 use borrow.Author.Tests.{eq-eqb, ne_eqb, not-true, not-false}
 use Rattle.definitions.specs.declared.Node.{Node}
 use Rattle.definitions.specs.declared.Want.{Want}
-use Rattle.definitions.specs.Basics.{if◌then◌else◌}
+use Rattle.definitions.specs.Basics.{when◌then◌otherwise◌}
 use Rattle.definitions.specs.Image.{accepted}
 use Rattle.definitions.specs.Scope.{Scope, in_message, want, within, has_field, nests, map_entry}
 use Rattle.definitions.specs.Nodes.{node_at, table_end, forest}
@@ -52,13 +52,13 @@ weight-le b r a h = go (b && eqb r 0) refl
 
 -- what one value counts for
 abbrev pub counted : Bool → (r k : ℕ) → (kids : Tree) → ℕ
-counted b r k kids = if nests k then (λ _. count (eqb k map_entry) kids) else λ _. weight b r
+counted b r k kids = when nests k then (λ _. count (eqb k map_entry) kids) otherwise λ _. weight b r
 
 -- the same of every value that no later sibling replaces, of its live values
 unfoldable pub live_count : List ℕ → Scope → Bool → Tree → ℕ
 live_count s c b nil = 0
 live_count s c b (node r k v kids rest) =
-    (if replaced (sharing s c r) r kids rest then (λ _. 0) else λ _. counted b r k (canon s (within (want s c r)) kids)) + live_count s c b rest
+    (when replaced (sharing s c r) r kids rest then (λ _. 0) otherwise λ _. counted b r k (canon s (within (want s c r)) kids)) + live_count s c b rest
 
 none_more : (a : ℕ) → 0 + a ≡ a
 none_more a = omega arith
@@ -117,9 +117,9 @@ module _ (s pool : List ℕ) (c : Scope) (b : Bool) (w : List ℕ) (from to : �
 
     module _ (h : i < to) (n : Node) (e : n ≡ node_at w i) where
       tally-some : live_count s c b (from_on pool w i to)
-          ≡ ((if replaced_at s pool c w i to
+          ≡ ((when replaced_at s pool c w i to
           then (λ _. 0)
-          else λ _. counted b (rank_of (node_at w i)) (node_at w i).kind (canon s (within (want s c (rank_of (node_at w i)))) (kids_of pool w i)))
+          otherwise λ _. counted b (rank_of (node_at w i)) (node_at w i).kind (canon s (within (want s c (rank_of (node_at w i)))) (kids_of pool w i)))
           + live_count s c b (from_on pool w (end_of w i) to))
       unfolding live_count
       tally-some = rw (tree-some pool w i to h x.sound.tiled)

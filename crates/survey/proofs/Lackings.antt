@@ -10,7 +10,7 @@ use Rattle.definitions.specs.declared.Node.{Node}
 use Rattle.definitions.specs.declared.Want.{Want}
 use Rattle.definitions.specs.declared.Span.{Span}
 use Rattle.definitions.specs.declared.Field.{Field}
-use Rattle.definitions.specs.Basics.{if◌then◌else◌, find}
+use Rattle.definitions.specs.Basics.{when◌then◌otherwise◌, find}
 use Rattle.definitions.specs.Image.{field_count, message, field, accepted}
 use Rattle.definitions.specs.Scope.{Scope, in_message, want, within, has_field, nests, map_entry}
 use Rattle.definitions.specs.Nodes.{node_at, table_end, forest}
@@ -122,9 +122,9 @@ module _ (s pool : List ℕ) (c : Scope) (w : List ℕ) (from to i : ℕ) (x : W
 
   module _ (h : i < to) (n : Node) (e : n ≡ node_at w i) where
     walk-some : lacking_below s c (from_on pool w i to)
-        ≡ ((if nests (node_at w i).kind && not (replaced_at s pool c w i to)
+        ≡ ((when nests (node_at w i).kind && not (replaced_at s pool c w i to)
         then (λ _. lacking s (within (want s c (rank_of (node_at w i)))) (kids_of pool w i))
-        else λ _. none)
+        otherwise λ _. none)
         or_else λ _. lacking_below s c (from_on pool w (end_of w i) to))
     unfolding lacking_below lacking
     walk-some = rw (tree-some pool w i to h x.sound.tiled)

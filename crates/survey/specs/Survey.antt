@@ -1,7 +1,7 @@
 -- What a person is told of a table: how many live values it has, and the first required field that lacks.
 use Rattle.std.specs.Prelude.{ℕ, ◌+◌, Bool, false, ◌&&◌, not, List, eqb}
 use Rattle.std.proofs.Math.Option.{Option, none, some}
-use Rattle.definitions.specs.Basics.{if◌then◌else◌, find}
+use Rattle.definitions.specs.Basics.{when◌then◌otherwise◌, find}
 use Rattle.definitions.specs.Image.{message, field, is_required, is_message, accepted}
 use Rattle.definitions.specs.Scope.{Scope, in_message, in_entry, want, within, nests, map_entry}
 use Rattle.definitions.specs.Validity.{valid, below}
@@ -17,17 +17,17 @@ taken s root w pool = accepted s && is_message s root && valid s root w pool
 
 -- a scalar counts 1, but an entry's key, of rank 0 there, for nothing
 unfoldable pub weight : (entry : Bool) (r : ℕ) → ℕ
-weight entry r = if entry && eqb r 0 then (λ _. 0) else λ _. 1
+weight entry r = when entry && eqb r 0 then (λ _. 0) otherwise λ _. 1
 
 -- the scalars among the values of a message, or of an entry: a message or an entry counts for what lies in it
 unfoldable pub count : (entry : Bool) → Tree → ℕ
 count entry nil = 0
 count entry (node r k v kids rest) =
-    (if nests k then (λ _. count (eqb k map_entry) kids) else λ _. weight entry r) + count entry rest
+    (when nests k then (λ _. count (eqb k map_entry) kids) otherwise λ _. weight entry r) + count entry rest
 
 -- of the live values of a table that is taken
 unfoldable pub value_count : (s : List ℕ) (root : ℕ) (w pool : List ℕ) → ℕ
-value_count s root w pool = if taken s root w pool then (λ _. count false (meaning s root w pool)) else λ _. 0
+value_count s root w pool = when taken s root w pool then (λ _. count false (meaning s root w pool)) otherwise λ _. 0
 
 -- ---- the first required field that lacks
 
@@ -50,9 +50,9 @@ none or_else b = b tt
 unfoldable pub lacking_below : List ℕ → Scope → Tree → Option ℕ
 lacking_below s c nil = none
 lacking_below s c (node r k v kids rest) =
-    (if nests k && not (replaced (sharing s c r) r kids rest)
+    (when nests k && not (replaced (sharing s c r) r kids rest)
     then (λ _. lacking_in s (within (want s c r)) kids or_else λ _. lacking_below s (within (want s c r)) kids)
-    else λ _. none)
+    otherwise λ _. none)
     or_else λ _. lacking_below s c rest
 
 unfoldable pub lacking : List ℕ → Scope → Tree → Option ℕ
@@ -61,7 +61,7 @@ lacking s c t = lacking_in s c t or_else λ _. lacking_below s c t
 -- of a table that is taken
 unfoldable pub missing_field : (s : List ℕ) (root : ℕ) (w pool : List ℕ) → Option ℕ
 missing_field s root w pool =
-    if taken s root w pool then (λ _. lacking s (in_message root) (tree_of pool (below w))) else λ _. none
+    when taken s root w pool then (λ _. lacking s (in_message root) (tree_of pool (below w))) otherwise λ _. none
 
 abbrev pub missing_of : Option ℕ → Missing
 missing_of none = missing.Nothing

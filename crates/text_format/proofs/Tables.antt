@@ -7,7 +7,7 @@ use mathlib.Core.Option.{Option, none, some}
 use native.Mathlib.Omega.{arith}
 use lib.Dec.{ltb}
 use borrow.Author.Tests.{lt-ltb, le-ltb, ltb-true, ltb-false}
-use Rattle.definitions.specs.Basics.{if◌then◌else◌}
+use Rattle.definitions.specs.Basics.{when◌then◌otherwise◌}
 use Rattle.definitions.specs.Refusals.{bad_schema, no_message, bad_table, required_missing, no_value, unplaced}
 use Rattle.definitions.specs.Image.{accepted, is_message, message_count}
 use Rattle.definitions.specs.Scope.{in_message}
@@ -109,7 +109,7 @@ module _ (image : List ℕ) (root : ℕ) (w pool : List ℕ) where
     unfolding value_answer table_barred value_run
     value-given i start count r h e = go (is_value w i) refl (sym e ∙ h)
       where
-        go : (b : Bool) → is_value w i ≡ b → run.At start count ≡ (if b then (λ _. run.At (node_at w i).high (node_at w i).low) else λ _. run.Nothing) → valued.Given ≡ valued_of (value_answer image root w pool i)
+        go : (b : Bool) → is_value w i ≡ b → run.At start count ≡ (when b then (λ _. run.At (node_at w i).high (node_at w i).low) otherwise λ _. run.Nothing) → valued.Given ≡ valued_of (value_answer image root w pool i)
         go true v k = simp (f.unbarred, v)
         go false v k = let z : ◌≡◌ {A = ℕ} 0 1 = cc in absurd (omega arith)
 
@@ -117,7 +117,7 @@ module _ (image : List ℕ) (root : ℕ) (w pool : List ℕ) where
     unfolding value_answer table_barred value_run
     value_none i r h e = go (is_value w i) refl (sym e ∙ h)
       where
-        go : (b : Bool) → is_value w i ≡ b → run.Nothing ≡ (if b then (λ _. run.At (node_at w i).high (node_at w i).low) else λ _. run.Nothing) → valued.No no_value (unplaced 0) ≡ valued_of (value_answer image root w pool i)
+        go : (b : Bool) → is_value w i ≡ b → run.Nothing ≡ (when b then (λ _. run.At (node_at w i).high (node_at w i).low) otherwise λ _. run.Nothing) → valued.No no_value (unplaced 0) ≡ valued_of (value_answer image root w pool i)
         go true v k = let z : ◌≡◌ {A = ℕ} 0 1 = cc in absurd (omega arith)
         go false v k = simp (f.unbarred, v)
 
@@ -125,6 +125,6 @@ module _ (image : List ℕ) (root : ℕ) (w pool : List ℕ) where
     unfolding value_bytes value_answer table_barred lent_run
     bytes-lent i r h = h ∙ go (is_value w i) refl
       where
-        go : (b : Bool) → is_value w i ≡ b → (if b then (λ _. run_of pool (node_at w i)) else λ _. []) ≡ value_bytes image root w pool i
+        go : (b : Bool) → is_value w i ≡ b → (when b then (λ _. run_of pool (node_at w i)) otherwise λ _. []) ≡ value_bytes image root w pool i
         go true v = sym (simp (f.unbarred, v))
         go false v = sym (simp (f.unbarred, v))

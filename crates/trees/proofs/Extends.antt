@@ -7,7 +7,7 @@ use mathlib.Core.List.{List}
 use mathlib.Core.Option.{some}
 use lib.Dec.{ltb, leb, eqb}
 use borrow.Author.Tests.{eqb-true, eqb-false, eq-eqb, leb-true, ltb-true, ltb-false, le-leb}
-use Rattle.definitions.specs.Basics.{if◌then◌else◌, same, all}
+use Rattle.definitions.specs.Basics.{when◌then◌otherwise◌, same, all}
 use Rattle.definitions.specs.Image.{message_count, enum_count, message, enumeration, field, member, field_name, member_name, find_field, find_member}
 use Rattle.definitions.specs.Extending.{same_field, embedded, message_extends, same_member, enum_extends, extends}
 use Rattle.laws.proofs.Lists.{and_parts, and-made, all-at, all_made, any_some, any-made, same_true, same_refl}
@@ -189,9 +189,9 @@ extends-trans a b c p q =
 unfoldable pub placed : (a b : List ℕ) → (i n j left k : ℕ) → ℕ
 placed a b i zero j left k = 0
 placed a b i (suc n) j zero k = 0
-placed a b i (suc n) j (suc left) zero = if same_field a b i j then (λ _. i) else λ _. placed a b (i + 1) n j (suc left) zero
+placed a b i (suc n) j (suc left) zero = when same_field a b i j then (λ _. i) otherwise λ _. placed a b (i + 1) n j (suc left) zero
 placed a b i (suc n) j (suc left) (suc k) =
-    if same_field a b i j then (λ _. placed a b (i + 1) n (j + 1) left k) else λ _. placed a b (i + 1) n j (suc left) (suc k)
+    when same_field a b i j then (λ _. placed a b (i + 1) n (j + 1) left k) otherwise λ _. placed a b (i + 1) n j (suc left) (suc k)
 
 module _ (a b : List ℕ) where
   abbrev Placed : (i n j k p : ℕ) → Type 0

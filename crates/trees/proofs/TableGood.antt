@@ -10,7 +10,7 @@ use lib.Seq.{take-append_seam}
 use borrow.Author.Tests.{eq-eqb, le-leb}
 use Rattle.definitions.specs.declared.Node.{Node}
 use Rattle.definitions.specs.declared.Want.{Want}
-use Rattle.definitions.specs.Basics.{if◌then◌else◌, between}
+use Rattle.definitions.specs.Basics.{when◌then◌otherwise◌, between}
 use Rattle.definitions.specs.Refusals.{most_depth, most_nodes}
 use Rattle.definitions.specs.Scope.{Scope, in_message, want, within, has_field, nests, i32, i64, u32, u64, bool, string, byte_string, enum, body, map_entry}
 use Rattle.definitions.specs.Nodes.{node_at, table_end, run_of, is_unknown, grow, forest, tile_f, tiles, depth, high_of, low_of, word32}
@@ -145,7 +145,7 @@ module _ (s pool : List ℕ) where
   value-good r k (run bs) kids i b more h e d l =
       rw (e.0, h.0) (and-made _ _ (le-leb (b + length bs) (length pool) l) (go (eqb k string) refl))
     where
-      go : (o : Bool) → eqb k string ≡ o → (if eqb k string then (λ _. utf8 (run_of pool (node_laid r k (run bs) kids i b))) else λ _. true) ≡ true
+      go : (o : Bool) → eqb k string ≡ o → (when eqb k string then (λ _. utf8 (run_of pool (node_laid r k (run bs) kids i b))) otherwise λ _. true) ≡ true
       go true q = rw (q, d, take-append_seam bs more) (e.1 q)
       go false q = rw q refl
 

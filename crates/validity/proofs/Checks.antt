@@ -10,7 +10,7 @@ use lib.ListN.{length, take, drop}
 use borrow.Author.Tests.{ltb-true, leb-true, eqb-true, lt-ltb, le-ltb, le-leb, lt-leb, eq-eqb, ne_eqb}
 use Rattle.definitions.specs.declared.Node.{Node}
 use Rattle.definitions.specs.declared.Want.{Want}
-use Rattle.definitions.specs.Basics.{if◌then◌else◌}
+use Rattle.definitions.specs.Basics.{when◌then◌otherwise◌}
 use Rattle.definitions.specs.Scope.{Scope, in_entry, want, within, has_field, nests, string, map_entry}
 use Rattle.definitions.specs.Nodes.{half, is_run, is_unknown, Forest}
 use Rattle.definitions.specs.Validity.{in_range, run_good, value_good, unknown_good, field_fits, is_pair, entry_good}
@@ -24,7 +24,7 @@ use Rattle.nodes.proofs.Words.{run-part}
 -- ---- numbers
 
 module _ (k : ℕ) (n : Node) where
-  extended : (k ≡ 1) ⊎ (k ≡ 8) → in_range k n ≡ eqb n.high (if ltb n.low half then (λ _. 0) else λ _. 4294967295)
+  extended : (k ≡ 1) ⊎ (k ≡ 8) → in_range k n ≡ eqb n.high (when ltb n.low half then (λ _. 0) otherwise λ _. 4294967295)
   unfolding in_range
   extended (inl e) = rw e
   extended (inr e) = rw e

@@ -8,7 +8,7 @@ use lib.Dec.{eqb, ltb, leb}
 use lib.ListN.{length}
 use borrow.Author.Tests.{ltb-true, ltb-false, leb-true, eqb-true, eqb-false}
 use Rattle.definitions.specs.declared.Node.{Node}
-use Rattle.definitions.specs.Basics.{if◌then◌else◌}
+use Rattle.definitions.specs.Basics.{when◌then◌otherwise◌}
 use Rattle.definitions.specs.Scope.{Scope, in_message, want, within, nests, body, map_entry, string}
 use Rattle.definitions.specs.Refusals.{most_depth}
 use Rattle.definitions.specs.Nodes.{node_at, table_end, is_run, run_of}
@@ -71,7 +71,7 @@ unfolding value_good run_good
 good-run pool n h v =
     let g : run_good pool n ≡ true = rw (run-plain n.kind h, h) at v in
     leb-true (n.high + n.low) (length pool)
-    (and_parts (leb (n.high + n.low) (length pool)) (if eqb n.kind string then (λ _. utf8 (run_of pool n)) else λ _. true) g).0
+    (and_parts (leb (n.high + n.low) (length pool)) (when eqb n.kind string then (λ _. utf8 (run_of pool n)) otherwise λ _. true) g).0
 
 -- ---- a valid table
 

@@ -2,7 +2,7 @@
 -- right at that place: at the end of the text it is empty, and of a bad token, whose end no grammar tells, it is what was most likely meant
 -- as one.
 use Rattle.std.specs.Prelude.{ℕ, ◌+◌, ◌-◌, Bool, ◌&&◌, ◌||◌, not, List, [], ◌∷◌, eqb, leb, length, drop}
-use Rattle.definitions.specs.Basics.{if◌then◌else◌, part}
+use Rattle.definitions.specs.Basics.{when◌then◌otherwise◌, part}
 use Rattle.definitions.specs.Classes.{class, goes_on, quote_class, digit_class}
 use Rattle.definitions.specs.Integers.{front}
 use Rattle.definitions.specs.Places.{newline, place_of}
@@ -15,8 +15,8 @@ use Rattle.definitions.specs.Tokens.{Scan, token, bad, skip, scan}
 -- digits, `_` and `.`, a byte over 127 with others such, so that a letter of UTF-8 is whole; any other byte stands alone
 unfoldable pub goes_with : ℕ → ℕ → Bool
 goes_with first b =
-    if eqb (class first) quote_class then (λ _. not (eqb b newline || eqb b 0)) else λ _.
-    if eqb (class first) digit_class then (λ _. goes_on b || eqb b 46) else λ _.
+    when eqb (class first) quote_class then (λ _. not (eqb b newline || eqb b 0)) otherwise λ _.
+    when eqb (class first) digit_class then (λ _. goes_on b || eqb b 46) otherwise λ _.
     leb 128 first && leb 128 b
 
 -- how many bytes a bad token takes
@@ -35,13 +35,13 @@ word_end s at = token_end s (scan s at)
 
 -- the word at an offset, behind what separates; a text over the limit has none, and none stands past the end
 unfoldable pub word : List ℕ → ℕ → List ℕ
-word s at = if leb (length s) most_text && leb at (length s) then (λ _. part s (skip s at) (word_end s at)) else λ _. []
+word s at = when leb (length s) most_text && leb at (length s) then (λ _. part s (skip s at) (word_end s at)) otherwise λ _. []
 
 -- ---- lines
 
 -- where the line of an offset begins: the column counts back to it; past the end no line stands, and the offset is its own
 unfoldable pub line_first : List ℕ → ℕ → ℕ
-line_first s at = if leb at (length s) then (λ _. at + 1 - (place_of s at).column) else λ _. at
+line_first s at = when leb at (length s) then (λ _. at + 1 - (place_of s at).column) otherwise λ _. at
 
 -- where it ends: at its newline, or the end of the text
 unfoldable pub line_end : List ℕ → ℕ → ℕ
@@ -49,4 +49,4 @@ line_end s at = at + front (λ b. not (eqb b newline)) (drop at s)
 
 -- the line of an offset without its newline; past the end there is none
 unfoldable pub line : List ℕ → ℕ → List ℕ
-line s at = if leb at (length s) then (λ _. part s (line_first s at) (line_end s at)) else λ _. []
+line s at = when leb at (length s) then (λ _. part s (line_first s at) (line_end s at)) otherwise λ _. []
