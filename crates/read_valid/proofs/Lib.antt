@@ -1,6 +1,6 @@
 -- Why what is read is valid: a reading lays a tree down (Laid), every value that it reads is right for its kind (Leaves), bodies have
 -- the fields of their scope and entries a key and a value (Bodies); so the table that it leaves is valid (ReadValid.read-valid).
--- And where a refusal points: every place of a fault is a token's (Points); all other refusals have none (Told.read-told).
+-- And where a refusal points: every place of a fault is a token's (Points); all other refusals have none (Told.read_told).
 pub mod Laid
 pub mod Leaves
 pub mod Bodies

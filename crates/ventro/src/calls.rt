@@ -90,7 +90,7 @@ fn worse(a: u8, b: u8) -> u8 {
 
 // Writes to the verdict's descriptor; where there is none, nothing.
 fn put(rt: HostRuntime, bytes: &[u8]) -> io::Result<()> {
-    let mut to = OpenOptions::new().write(true).open(&rt, VERDICT)?;
+    let mut to = OpenOptions::new().append(true).open(&rt, VERDICT)?;
     to.write_all(bytes)
 }
 
