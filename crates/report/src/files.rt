@@ -8,23 +8,30 @@ use std::{fs, io};
 use streams::line;
 use streams::out::Out;
 
-// How many bytes were read, or which of the reasons below it is that none can be.
+// How many bytes were read, or why none can be.
 #[derive(Clone, Copy)]
 enum Got {
     Bytes(usize),
     Failed(usize),
 }
 
-// Why a file can't be read: the system's numbers that have a sentence of their own, each with the sentence's place among them.
-const NO_FILE: i32 = 2;
+// The system's numbers for what has a sentence of its own.
+const ENOENT: i32 = 2;
 
-const NO_LEAVE: i32 = 13;
+const EBADF: i32 = 9;
 
-const NO_INPUT: i32 = 9;
+const EACCES: i32 = 13;
 
-const FOLDER: i32 = 21;
+const EISDIR: i32 = 21;
 
-const NOT_HERE: usize = 3;
+// Why a file can't be read: the place of its sentence among those of `load`.
+const NO_FILE: usize = 0;
+
+const DIRECTORY: usize = 1;
+
+const NO_LEAVE: usize = 2;
+
+const NO_INPUT: usize = 3;
 
 const OTHER: usize = 4;
 
@@ -38,10 +45,10 @@ pub enum Loaded {
 // Which of the reasons below it is.
 fn reason(error: io::Error) -> usize {
     match error.raw_os_error() {
-        Some(NO_FILE) => 0,
-        Some(FOLDER) => 1,
-        Some(NO_LEAVE) => 2,
-        Some(NO_INPUT) => NOT_HERE,
+        Some(ENOENT) => NO_FILE,
+        Some(EISDIR) => DIRECTORY,
+        Some(EACCES) => NO_LEAVE,
+        Some(EBADF) => NO_INPUT,
         _ => OTHER,
     }
 }
@@ -85,7 +92,7 @@ fn open(rt: HostRuntime, path: &str, room: &mut [u8]) -> Got {
 fn read(rt: HostRuntime, path: &[u8], room: &mut [u8], is_script: bool) -> Got {
     if same(path, b"-") {
         if is_script {
-            return Got::Failed(NOT_HERE);
+            return Got::Failed(NO_INPUT);
         }
         let mut input = rt.stdin();
         return fill(&mut input, room);
