@@ -10,67 +10,40 @@ mod rooms;
 
 use std::io::Read;
 
-// Each room is made and lent by a function of its own, since a proof that holds several large arrays costs too much.
 fn main(rt: HostRuntime) {
-    let mut input = rooms::input();
-    with_input(rt, &mut input);
-}
-
-// One read into the room from n on. How many bytes there are then, the same where no more come.
-fn read_on(rt: HostRuntime, room: &mut [u8], n: usize) -> usize
-    requires { n ≤ length room.old }
-    ensures within { result ≤ length room.old }
-    ensures on { n ≤ result }
-{
-    match rt.stdin().read(&mut room[n..]) {
-        Ok(count) => n + count,
-        Err(_) => n,
+    let mut input: rooms::Input = rooms::empty();
+    let mut nodes: rooms::Nodes = rooms::empty();
+    let mut pool: rooms::Pool = rooms::empty();
+    let mut buffer: rooms::Buffer = rooms::empty();
+    let n = fill(rt, &mut input);
+    if let Some((image, text)) = parts(&input[..n]) {
+        phases::all(rt, image, text, &mut nodes, &mut pool, &mut buffer);
     }
 }
 
-// Reads until the room is full or the input ends. Nothing says that it ends, so the turns are counted down: each reads a byte or is the last.
+// Reads until the room is full, the input ends or can't be read. Nothing says that it ends, so the turns are counted: each reads a byte
+// or is the last.
+//
+// Kept: not the `fill` of report, which tells why a read failed and not what came before.
 fn fill(rt: HostRuntime, room: &mut [u8]) -> usize
     ensures { result ≤ length room.old }
 {
     let mut n = 0;
     for _ in 0..room.len() {
-        let next = read_on(rt, room, n);
-        if next == n {
-            return n;
+        let count = rt.stdin().read(&mut room[n..]).unwrap_or(0);
+        if count == 0 {
+            break;
         }
-        n = next;
+        n += count;
     }
     n
 }
 
-fn with_input(rt: HostRuntime, room: &mut [u8]) {
-    let n = fill(rt, room);
-    with_parts(rt, &room[..n]);
-}
-
-fn with_parts(rt: HostRuntime, input: &[u8]) {
-    if input.len() < 3 {
-        return;
-    }
-    let length = bits::bits(input, 0, 24) as usize;
-    if input.len() - 3 < length {
-        return;
-    }
-    let end = 3 + length;
-    with_nodes(rt, &input[3..end], &input[end..]);
-}
-
-fn with_nodes(rt: HostRuntime, image: &[u8], text: &[u8]) {
-    let mut nodes = rooms::nodes();
-    with_pool(rt, image, text, &mut nodes);
-}
-
-fn with_pool(rt: HostRuntime, image: &[u8], text: &[u8], nodes: &mut [u32]) {
-    let mut pool = rooms::pool();
-    with_buffer(rt, image, text, nodes, &mut pool);
-}
-
-fn with_buffer(rt: HostRuntime, image: &[u8], text: &[u8], nodes: &mut [u32], pool: &mut [u8]) {
-    let mut buffer = rooms::buffer();
-    phases::all(rt, image, text, nodes, pool, &mut buffer);
+// The image and the text, where the input has as many bytes as it says.
+fn parts(input: &[u8]) -> Option<(&[u8], &[u8])> {
+    let [high, middle, low, rest @ ..] = input else {
+        return None;
+    };
+    let length = u32::from_be_bytes([0, *high, *middle, *low]);
+    rest.split_at_checked(length as usize)
 }

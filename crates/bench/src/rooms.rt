@@ -1,29 +1,19 @@
-// The rooms that the program holds, on the stack. Each `ensures` gives the length, which lending the array as a slice needs.
-ghost use Rattle.std.specs.Prelude.{◌≡◌, length};
+// The rooms that the program holds, on the stack.
 
 // The image's length, the image and the text.
-pub fn input() -> [u8; 1181187]
-    ensures { 1181187 ≡ length result }
-{
-    [0; 1181187]
-}
+pub type Input = [u8; 1181187];
 
 // The words of the largest table.
-pub fn nodes() -> [u32; 327675]
-    ensures { 327675 ≡ length result }
-{
-    [0; 327675]
-}
+pub type Nodes = [u32; 327675];
 
-pub fn pool() -> [u8; 1048576]
-    ensures { 1048576 ≡ length result }
-{
-    [0; 1048576]
-}
+pub type Pool = [u8; 1048576];
 
 // What is printed.
-pub fn buffer() -> [u8; 2097152]
-    ensures { 2097152 ≡ length result }
-{
-    [0; 2097152]
+pub type Buffer = [u8; 2097152];
+
+// All zero, where zero is the default.
+//
+// Kept: a function makes each room, since the check of a body that holds several large arrays by their values runs out of stack.
+pub fn empty<T: Copy + Default, const N: usize>() -> [T; N] {
+    [T::default(); N]
 }

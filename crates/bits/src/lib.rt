@@ -10,10 +10,8 @@ pub fn load(s: &[u8], at: usize, count: usize) -> u64
     ensures { result ≡ field.bits s.now (8 * at) (8 * count) }
 {
     let mut value: u64 = 0;
-    let mut i = 0;
-    while i < count {
-        value = value * 256 + s[at + i] as u64;
-        i += 1;
+    for byte in &s[at..at + count] {
+        value = value * 256 + u64::from(*byte);
     }
     value
 }

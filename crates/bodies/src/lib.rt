@@ -2,216 +2,139 @@
 // original's parse.rs, its names kept where the thing is the same).
 #![tactic(auto)]
 
-ghost use Rattle.std.specs.Prelude.{◌≡◌, true, ◌≤◌, ◌<◌, length};
-ghost use Rattle.definitions.specs.Refusals.{most_text};
+ghost use Rattle.std.specs.Prelude.{◌≡◌, true, ◌<◌};
 ghost use Rattle.definitions.specs.Scope.{want, within, nests};
 ghost use Rattle.definitions.specs.Reading.{field, under, read_body, root_want};
-ghost use Rattle.records.specs.Known.{Known};
 ghost use Rattle.lexer.specs.Steps.{line_at};
-ghost use Rattle.leaves.specs.Answers.{Fair, Lent, Fits, Holds, Answers, Inside, closer_for};
+ghost use Rattle.leaves.specs.Answers.{Fair, Fits, Holds, Answers, Inside, closer_for};
 ghost use Rattle.definitions.specs.Image.{message_count};
 
 use definitions::limits::MOST_DEPTH;
-use definitions::{Spot, Want, kinds, refusals, tokens};
-use entries::{close_body, find_in, has_key, has_value, is_again, want_in};
-use leaves::{Answer, bad, put_body};
-use lexer::{Cursor, Line, Step};
-use records::{Found, Layout};
+use definitions::refusals::Refusal;
+use definitions::{Refused, Spot, Want, kinds, tokens};
+use entries::{Entry, close_body, find_in};
+use leaves::{Position, Source, put_body};
+use lexer::Line;
+use nodes::{root_want, want};
 use scalars::read_colon;
+
+// Kept: nodes and pool go down as two parameters, since they are two rooms, of which a part or nothing may be lent.
 
 // A field of a message or of an entry, after its name.
 #[cycle(merge_field_read_message_read_value_of_type)]
 fn merge_field(
-    s: &[u8],
-    image: &[u8],
-    layout: Layout,
-    table: &[u8; 256],
-    esc: &[u8; 22],
+    source: &Source,
     w: Want,
     i: usize,
     left: usize,
-    q: Spot,
-    l: Line,
+    here: Position,
     nodes: &mut [u32],
     pool: &mut [u8],
-) -> Answer
-    requires { Lent table.now esc.now × Known image.now layout × Fair s.now q l × Fits image.now w × Inside image.now w i × (nests w.kind ≡ true) }
-    ensures { Answers (line_at s.now) nodes.old nodes.new pool.old pool.new q (field (under left image.now s.now) image.now s.now (want image.now (within w) i) q) result }
+) -> Result<Position, Refused>
+    requires { Fair source.now.text.now here × Fits source.now.schema.image.now w × Inside source.now.schema.image.now w i × (nests w.kind ≡ true) }
+    ensures { Answers (line_at source.now.text.now) nodes.old nodes.new pool.old pool.new here.spot (field (under left source.now.schema.image.now source.now.text.now) source.now.schema.image.now source.now.text.now (want source.now.schema.image.now (within w) i) here.spot) result }
 {
-    let asked = want_in(image, layout, w, i);
-    read_value_of_type(s, image, layout, table, esc, asked, left, q, l, nodes, pool)
+    let asked = want(&source.schema, w, i);
+    read_value_of_type(source, asked, left, here, nodes, pool)
 }
 
 // `:` and a scalar; or `{` or `<`, fields and the matching closer. `left` is how many levels deeper it may go.
 #[cycle(merge_field_read_message_read_value_of_type)]
 fn read_value_of_type(
-    s: &[u8],
-    image: &[u8],
-    layout: Layout,
-    table: &[u8; 256],
-    esc: &[u8; 22],
+    source: &Source,
     w: Want,
     left: usize,
-    q: Spot,
-    l: Line,
+    here: Position,
     nodes: &mut [u32],
     pool: &mut [u8],
-) -> Answer
-    requires { Lent table.now esc.now × Known image.now layout × Fair s.now q l × Holds w q × Fits image.now w }
-    ensures { Answers (line_at s.now) nodes.old nodes.new pool.old pool.new q (field (under left image.now s.now) image.now s.now w q) result }
+) -> Result<Position, Refused>
+    requires { Fair source.now.text.now here × Holds w here.spot × Fits source.now.schema.image.now w }
+    ensures { Answers (line_at source.now.text.now) nodes.old nodes.new pool.old pool.new here.spot (field (under left source.now.schema.image.now source.now.text.now) source.now.schema.image.now source.now.text.now w here.spot) result }
 {
     if w.kind < kinds::MESSAGE {
-        return read_colon(s, image, layout, table, esc, w, q, l, nodes, pool);
+        return read_colon(source, w, here, nodes, pool);
     }
-    let st = Cursor::next_from(q, l, s, table);
-    let Step::Token(t, after) = st else {
-        return bad(st);
+    let (t, after) = source.next(here)?;
+    let Some(closer) = closer_of(w.kind, t.kind) else {
+        return Err(Refusal::OtherExpected.at(t.start));
     };
-    let place = t.start;
-    let closer = closer_of(w.kind, t.kind);
-    if closer == tokens::END {
-        return Answer::No(refusals::OTHER_EXPECTED, place);
-    }
     if left == 0 {
-        return Answer::No(refusals::TOO_DEEP, place);
+        return Err(Refusal::TooDeep.at(t.start));
     }
-    let mut inside = q;
-    inside.at = after.at;
-    inside.node = q.node + 1;
-    let first = after.line;
-    let r = read_message(
-        s,
-        image,
-        layout,
-        table,
-        esc,
-        w,
-        closer,
-        left - 1,
-        inside,
-        first,
-        nodes,
-        pool,
-    );
-    let Answer::Done(next, end) = r else {
-        return r;
-    };
-    put_body(nodes, q.node, w.kind, w.field, next.node);
-    Answer::Done(next, end)
+    let mut inside = here.moved(after);
+    inside.spot.node += 1;
+    let next = read_message(source, w, closer, left - 1, inside, nodes, pool)?;
+    put_body(nodes, here.spot.node, w, next.spot.node);
+    Ok(next)
 }
 
-// The closer that matches an opener, `{` or for a message also `<`; the end of the text for any other token, which closes nothing.
-fn closer_of(kind: u8, opener: u8) -> u8
+// The closer that matches an opener, `{` or for a message also `<`; no other token has one.
+fn closer_of(kind: u8, opener: u8) -> Option<u8>
     ensures { result ≡ closer_for kind opener }
 {
-    if opener == tokens::OPEN_BRACE {
-        return tokens::CLOSE_BRACE;
+    match opener {
+        tokens::OPEN_BRACE => Some(tokens::CLOSE_BRACE),
+        tokens::OPEN_ANGLE if kind == kinds::MESSAGE => Some(tokens::CLOSE_ANGLE),
+        _ => None,
     }
-    if kind == kinds::MESSAGE {
-        if opener == tokens::OPEN_ANGLE {
-            return tokens::CLOSE_ANGLE;
-        }
-    }
-    tokens::END
 }
 
 // Fields until the closer; an entry of a map gets its defaults there.
 #[cycle(merge_field_read_message_read_value_of_type)]
 fn read_message(
-    s: &[u8],
-    image: &[u8],
-    layout: Layout,
-    table: &[u8; 256],
-    esc: &[u8; 22],
+    source: &Source,
     w: Want,
     closer: u8,
     left: usize,
-    q: Spot,
-    l: Line,
+    mut here: Position,
     nodes: &mut [u32],
     pool: &mut [u8],
-) -> Answer
-    requires { Lent table.now esc.now × Known image.now layout × Fair s.now q l × Fits image.now w × (nests w.kind ≡ true) }
-    ensures { Answers (line_at s.now) nodes.old nodes.new pool.old pool.new q (read_body left image.now s.now (within w) closer q) result }
+) -> Result<Position, Refused>
+    requires { Fair source.now.text.now here × Fits source.now.schema.image.now w × (nests w.kind ≡ true) }
+    ensures { Answers (line_at source.now.text.now) nodes.old nodes.new pool.old pool.new here.spot (read_body left source.now.schema.image.now source.now.text.now (within w) closer here.spot) result }
 {
-    let mut q = q;
-    let mut l = l;
-    let mut key = false;
-    let mut value = false;
+    let mut entry = Entry::EMPTY;
     let mut guess = 0;
     loop {
-        let st = Cursor::next_from(q, l, s, table);
-        let Step::Token(t, after) = st else {
-            return bad(st);
-        };
-        let place = t.start;
-        q.at = after.at;
-        l = after.line;
+        let (t, after) = source.next(here)?;
+        here = here.moved(after);
         if t.kind == closer {
-            return close_body(image, layout, w, left == 0, place, q, l, key, value, nodes);
+            return close_body(&source.schema, w, left == 0, t.start, here, entry, nodes);
         }
         if t.kind != tokens::NAME {
-            return Answer::No(refusals::OTHER_EXPECTED, place);
+            return Err(Refusal::OtherExpected.at(t.start));
         }
-        let from = place.offset;
-        let to = after.at;
-        let Found::At(i) = find_in(image, layout, w, guess, &s[from..to]) else {
-            return Answer::No(refusals::UNKNOWN_FIELD, place);
+        let name = source.bytes_of(t, after);
+        let Some(i) = find_in(&source.schema, w, guess, name) else {
+            return Err(Refusal::UnknownField.at(t.start));
         };
-        if is_again(w, i, key, value) {
-            return Answer::No(refusals::TWICE, place);
+        if entry.is_again(w, i) {
+            return Err(Refusal::Twice.at(t.start));
         }
-        let r = merge_field(s, image, layout, table, esc, w, i, left, q, l, nodes, pool);
-        let Answer::Done(next, last) = r else {
-            return r;
-        };
-        q = next;
-        l = last;
+        here = merge_field(source, w, i, left, here, nodes, pool)?;
         guess = i;
-        key = has_key(w, i, key);
-        value = has_value(w, i, value);
+        entry = entry.with(w, i);
     }
 }
 
 // The root's fields, up to the end of the text.
 pub fn read_root(
-    s: &[u8],
-    image: &[u8],
-    layout: Layout,
-    table: &[u8; 256],
-    esc: &[u8; 22],
+    source: &Source,
     root: usize,
     nodes: &mut [u32],
     pool: &mut [u8],
-) -> Answer
-    requires { Lent table.now esc.now × Known image.now layout × (root < message_count image.now) × (length s.now ≤ most_text) }
-    ensures { Answers (line_at s.now) nodes.old nodes.new pool.old pool.new (record { at = 0; node = 1; byte = 0 }) (read_body 32 image.now s.now (within (root_want root)) 0 (record { at = 0; node = 1; byte = 0 })) result }
+) -> Result<Position, Refused>
+    requires { root < message_count source.now.schema.image.now }
+    ensures { Answers (line_at source.now.text.now) nodes.old nodes.new pool.old pool.new (record { at = 0; node = 1; byte = 0 }) (read_body 32 source.now.schema.image.now source.now.text.now (within (root_want root)) 0 (record { at = 0; node = 1; byte = 0 })) result }
 {
-    let start = Spot {
-        at: 0,
-        node: 1,
-        byte: 0,
-    };
-    let w = Want {
-        kind: kinds::MESSAGE,
-        reference: root,
-        field: 0,
-    };
-    read_message(
-        s,
-        image,
-        layout,
-        table,
-        esc,
-        w,
-        tokens::END,
-        MOST_DEPTH,
-        start,
-        Line {
-            number: 1,
-            began: 0,
+    let start = Position {
+        spot: Spot {
+            at: 0,
+            node: 1,
+            byte: 0,
         },
-        nodes,
-        pool,
-    )
+        line: Line::FIRST,
+    };
+    let w = root_want(root);
+    read_message(source, w, tokens::END, MOST_DEPTH, start, nodes, pool)
 }

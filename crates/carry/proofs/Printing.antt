@@ -11,32 +11,30 @@ use lib.ListN.{length, take, drop, length-take, length-drop}
 use lib.Seq.{sets-eq, take_at, take-append-le, drop-append-le}
 use borrow.Author.Tests.{ltb-false, leb-true, leb-false}
 use Rattle.definitions.specs.Basics.{part}
-use Rattle.definitions.specs.declared.Place.{Place}
+use Rattle.std.specs.Prelude.{Ok, Err}
+use Rattle.definitions.specs.declared.Refused.{Refused}
+use Rattle.definitions.specs.Reading.{Made}
 use Rattle.definitions.specs.Refusals.{Answer, given, denied, bad_table}
 use Rattle.definitions.specs.Validity.{valid}
 use Rattle.definitions.specs.Calls.{barred, unbarred}
 use Rattle.definitions.specs.Print.{Style, print_text, print_fitted, print_answer, print_buffer}
-use Rattle.fields.specs.Fields.{style_of}
-use Rattle.text_format.specs.declared.Printed.{Printed}
-use Rattle.text_format.specs.declared.Printed.TheVariants as printed
 use Rattle.text_format.specs.Answers.{printed_of}
-use Rattle.text_format.proofs.Prints.{Prints}
-
--- ---- the style that is asked for
-
-pub styled : (b c : Bool) → c ≡ b → (image : List ℕ) (root : ℕ) (w pool e : List ℕ) (r : Printed) (x : List ℕ)
-    → Prints image (style_of b) root w pool e r x → Prints image (style_of c) root w pool e r x
-styled b c h image root w pool e r x p = rw h p
+use Rattle.carry.specs.declared.NotCarried.TheVariants as not_carried
+use Rattle.carry.specs.Carry.{carried_of, after}
 
 -- ---- an answer by its case
 
-pub printed-no : (a : Answer ℕ) (why : ℕ) (at : Place) → printed.No why at ≡ printed_of a → a ≡ denied why at
-printed-no (given n) why at e = let z : ◌≡◌ {A = ℕ} 0 1 = cc in absurd (omega arith)
-printed-no (denied v p) why at e = cc
+pub refused-carried : (a : Answer ℕ) (u : Refused) → Err u ≡ printed_of a → (next : Unit {0} → Answer Made) → Err (not_carried.Print u) ≡ carried_of a next
+refused-carried (given n) u e next = cc
+refused-carried (denied why at) u e next = cc
 
-pub printed-length : (a : Answer ℕ) (n : ℕ) → printed.Length n ≡ printed_of a → a ≡ given n
+pub refused-after : (a : Answer ℕ) (u : Refused) → Err u ≡ printed_of a → (lent : List ℕ) (next : Unit {0} → List ℕ) → lent ≡ after a lent next
+refused-after (given n) u e lent next = cc
+refused-after (denied why at) u e lent next = refl
+
+pub printed-length : (a : Answer ℕ) (n : ℕ) → Ok n ≡ printed_of a → a ≡ given n
 printed-length (given m) n e = cc
-printed-length (denied v p) n e = let z : ◌≡◌ {A = ℕ} 0 1 = cc in absurd (omega arith)
+printed-length (denied v p) n e = cc
 
 -- ---- a print that is granted
 

@@ -1,3 +1,2 @@
--- What carrying answers and leaves in each lent room, and demand 3 said of those rooms (Carry); the cases of code's answers (Answers).
+-- What carrying answers and leaves in each lent room, and demand 3 said of those rooms.
 pub mod Carry
-pub mod Answers

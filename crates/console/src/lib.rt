@@ -6,67 +6,40 @@ mod fleet;
 mod prints;
 mod settings;
 mod show;
+mod table;
 
-use report::rooms::{Image, Pool, Shown, Text, Words};
-use report::verdict::Told;
-use report::{call, help, verdict};
-use streams::out;
-use streams::out::{Out, Stream};
-// What a call tells.
-fn told(
-    buf: &mut Out,
-    call: &[u8],
-    image: &mut Image,
-    older: &mut Image,
-    text: &mut Text,
-    words: &mut Words,
-    pool: &mut Pool,
-    more: &mut Words,
-    extra: &mut Pool,
-    shown: &mut Shown,
-    is_script: bool,
-) -> Told {
-    let asked = call::all_of(call, is_script);
-    let command = asked.command;
-    match command {
-        call::CHECK | call::PRINT | call::COMPACT => {
-            settings::settings(buf, call, asked, image, text, words, pool, shown)
+use report::call::{Asked, Command};
+use report::failure::Failure;
+use report::help;
+use report::rooms::Rooms;
+use report::verdict::Verdict;
+use streams::out::Out;
+
+// What a call comes to, told but for what keeps it from being answered.
+fn answer<'a>(out: &mut Out, asked: &Asked<'a>, rooms: &mut Rooms) -> Result<Verdict, Failure<'a>> {
+    match asked.command {
+        Some(Command::Check | Command::Print | Command::Compact) => {
+            settings::settings(out, asked, rooms)
         }
-        call::FLEET => fleet::fleet(buf, call, asked, image, text, words, pool, extra, shown),
-        call::CARRY => carrying::carry(
-            buf, call, asked, image, older, text, words, pool, more, extra, shown,
-        ),
-        call::SHOW => show::show(buf, call, asked, image),
-        _ => help::help(buf, call, asked),
+        Some(Command::Fleet) => fleet::fleet(out, asked, rooms),
+        Some(Command::Carry) => carrying::carry(out, asked, rooms),
+        Some(Command::Show) => show::show(out, asked, rooms),
+        Some(Command::Help | Command::Version | Command::Script) | None => help::help(out, asked),
     }
 }
 
-// Runs a call, writes what it tells, and answers its verdict: 0 taken, 1 refused or shown differently, 2 a wrong call, or a file that can't be read or written. What
-// is wrong with a call goes to standard error, but for a script's calls, which are answered in one stream.
-pub fn run(
-    buf: &mut Out,
-    call: &[u8],
-    image: &mut Image,
-    older: &mut Image,
-    text: &mut Text,
-    words: &mut Words,
-    pool: &mut Pool,
-    more: &mut Words,
-    extra: &mut Pool,
-    shown: &mut Shown,
-    is_script: bool,
-) -> u8 {
-    let told = told(
-        buf, call, image, older, text, words, pool, more, extra, shown, is_script,
-    );
-    let mut to = Stream::Output;
-    if told.verdict == verdict::WRONG {
-        if !is_script {
-            to = Stream::Errors;
-        }
-    }
-    if out::flush_to(to, buf, told.at) {
-        return told.verdict;
-    }
-    verdict::WRONG
+// Runs a call, writes what it tells, and answers its verdict: taken, refused or shown differently, or a wrong call, or a file that can't be
+// read or written. What is wrong with a call goes to standard error, but for a script's calls, which are answered in one stream.
+pub fn run(out: &mut Out, call: &[u8], rooms: &mut Rooms, is_script: bool) -> Verdict {
+    let asked = Asked::new(call, is_script);
+    let verdict = match answer(out, &asked, rooms) {
+        Ok(verdict) => verdict,
+        Err(failure) => failure.tell(out, &asked),
+    };
+    let is_written = if verdict == Verdict::Wrong && !is_script {
+        out.flush_errors()
+    } else {
+        out.flush()
+    };
+    if is_written { verdict } else { Verdict::Wrong }
 }

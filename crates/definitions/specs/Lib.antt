@@ -2,6 +2,7 @@
 -- A letter after a rule says where it comes from: R the Rust, T the public Text Format Language Specification, H this house.
 pub mod Basics
 pub mod Refusals
+pub mod Refused
 pub mod Bits
 pub mod Image
 pub mod Extending

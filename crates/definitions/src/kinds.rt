@@ -1,4 +1,6 @@
 // Kinds of nodes (H, "Node table"): 1 to 9 are the types of fields, 10 is a map entry, 11 to 13 are unknown u32, u64 and bytes.
+// Kept: numbers and no enum, since images and tables are anyone's, and the definitions take whatever number stands there (Image `field_of`,
+// Nodes `node_at`).
 pub const I32: u8 = 1;
 
 pub const I64: u8 = 2;
@@ -26,6 +28,7 @@ pub const UNKNOWN_U64: u8 = 12;
 pub const UNKNOWN_BYTES: u8 = 13;
 
 // The same as words of a node table.
+// Kept: constants of their own, since a pattern takes no `u32::from`.
 pub mod words {
     pub const I32: u32 = super::I32 as u32;
 

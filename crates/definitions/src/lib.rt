@@ -1,4 +1,4 @@
-// The types that the definitions share with the code above them, and the format's numbers by name. There is no function here: the rules
+// The types that the definitions share with the code above them, and the format's numbers by name: the rules
 // stand in specs/.
 #![tactic(auto)]
 
@@ -7,6 +7,14 @@ pub mod labels;
 pub mod limits;
 pub mod refusals;
 pub mod tokens;
+
+ghost use Rattle.std.specs.Prelude.{◌≡◌, ◌+◌, ◌≤◌, length};
+ghost use Rattle.definitions.specs.Scope as scope;
+ghost use Rattle.definitions.specs.Nodes as table;
+ghost use Rattle.definitions.specs.Live as live;
+
+use kinds::words;
+use limits::FIRST_UNKNOWN;
 
 // A run of records: the fields of a message, or the values of an enum (H, "Schema image").
 #[derive(Clone, Copy)]
@@ -54,6 +62,59 @@ pub struct Node {
     pub end: u32,
 }
 
+impl Node {
+    // Messages and entries hold nodes.
+    pub fn nests(self) -> bool
+        ensures { result ≡ scope.nests self.kind }
+    {
+        matches!(self.kind, words::MESSAGE | words::ENTRY)
+    }
+
+    // Kinds 11 to 13.
+    pub fn is_unknown(self) -> bool
+        ensures { result ≡ table.is_unknown self.kind }
+    {
+        words::UNKNOWN_U32 <= self.kind && self.kind <= words::UNKNOWN_BYTES
+    }
+
+    // Strings, bytes and unknown bytes.
+    pub fn is_run(self) -> bool
+        ensures { result ≡ table.is_run self.kind }
+    {
+        matches!(
+            self.kind,
+            words::STRING | words::BYTES | words::UNKNOWN_BYTES
+        )
+    }
+
+    // Where a node's values stand in print: a field's index, or 4,096 and the number of an unknown field.
+    pub fn rank(self) -> usize
+        ensures { result ≡ live.rank_of self }
+    {
+        if self.is_unknown() {
+            FIRST_UNKNOWN + self.field as usize
+        } else {
+            self.field as usize
+        }
+    }
+
+    // A number of 64 bits.
+    pub fn number(self) -> u64
+        ensures { result ≡ table.number_of self }
+    {
+        u64::from(self.high) << 32 | u64::from(self.low)
+    }
+
+    // The bytes of a string or of bytes, as a part of the pool.
+    pub fn run(self, pool: &[u8]) -> &[u8]
+        requires { self.high + self.low ≤ length pool.now }
+        ensures { result.now ≡ table.run_of pool.now self }
+    {
+        let start = self.high as usize;
+        &pool[start..start + self.low as usize]
+    }
+}
+
 // Where a refusal points (02 §1): an offset in the text with its line and column, both counted from 1, the column in bytes; or no
 // place in the text: the number that goes with the refusal, with line 0 and column 0. A text has at most 1,048,576 bytes.
 #[derive(Clone, Copy)]
@@ -69,6 +130,13 @@ pub const NO_PLACE: Place = Place {
     line: 0,
     column: 0,
 };
+
+// A refusal and its place.
+#[derive(Clone, Copy)]
+pub struct Refused {
+    pub why: refusals::Refusal,
+    pub at: Place,
+}
 
 // A token: what it is, and the place of its first byte. The kinds are those of specs/Tokens.antt.
 #[derive(Clone, Copy)]

@@ -1,36 +1,58 @@
-// Refusal numbers (H, "Refusal numbers"), by the names of specs/Refusals.antt.
-pub const BAD_SCHEMA: u8 = 1;
+// Refusals (H, "Refusal numbers"), by the names of specs/Refusals.antt, with document 01's numbers.
+ghost use Rattle.std.specs.Prelude.{◌≡◌};
+ghost use Rattle.definitions.specs.Refusals.{unplaced};
+ghost use Rattle.definitions.specs.Refused.{number_of};
 
-pub const NO_MESSAGE: u8 = 2;
+use crate::{Place, Refused};
 
-pub const TEXT_TOO_LONG: u8 = 3;
+#[derive(Clone, Copy, PartialEq, Eq, Debug)]
+pub enum Refusal {
+    BadSchema = 1,
+    NoMessage = 2,
+    TextTooLong = 3,
+    BadToken = 4,
+    OtherExpected = 5,
+    UnknownField = 6,
+    UnknownValue = 7,
+    Twice = 8,
+    Overflow = 9,
+    NotBool = 10,
+    BadString = 11,
+    TooDeep = 12,
+    NodesShort = 13,
+    PoolShort = 14,
+    BadTable = 15,
+    BufferShort = 16,
+    RequiredMissing = 17,
+    NoValue = 18,
+}
 
-pub const BAD_TOKEN: u8 = 4;
+impl Refusal {
+    // The refusal at a place.
+    pub fn at(self, place: Place) -> Refused
+        ensures { result ≡ record { why = self; at = place } }
+    {
+        Refused {
+            why: self,
+            at: place,
+        }
+    }
 
-pub const OTHER_EXPECTED: u8 = 5;
+    // The refusal with no place in the text, but a number that goes with it (02 §1).
+    pub fn unplaced(self, n: usize) -> Refused
+        ensures { result ≡ record { why = self; at = unplaced n } }
+    {
+        self.at(Place {
+            offset: n,
+            line: 0,
+            column: 0,
+        })
+    }
 
-pub const UNKNOWN_FIELD: u8 = 6;
-
-pub const UNKNOWN_VALUE: u8 = 7;
-
-pub const TWICE: u8 = 8;
-
-pub const OVERFLOW: u8 = 9;
-
-pub const NOT_BOOL: u8 = 10;
-
-pub const BAD_STRING: u8 = 11;
-
-pub const TOO_DEEP: u8 = 12;
-
-pub const NODES_SHORT: u8 = 13;
-
-pub const POOL_SHORT: u8 = 14;
-
-pub const BAD_TABLE: u8 = 15;
-
-pub const BUFFER_SHORT: u8 = 16;
-
-pub const REQUIRED_MISSING: u8 = 17;
-
-pub const NO_VALUE: u8 = 18;
+    // Document 01's number.
+    pub fn number(self) -> u8
+        ensures { result ≡ number_of self }
+    {
+        self as u8
+    }
+}

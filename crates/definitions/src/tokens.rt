@@ -1,4 +1,5 @@
 // Kinds of tokens (specs/Tokens.antt): the end of the text, names, integers and strings; a symbol's kind is its byte.
+// Kept: numbers, since the definitions' token has one, and a symbol's is its byte (Tokens `token_of`).
 pub const END: u8 = 0;
 
 pub const NAME: u8 = 1;

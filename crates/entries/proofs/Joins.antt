@@ -17,11 +17,14 @@ use Rattle.definitions.specs.Reading.{leaf, default, default_value, unless, join
 use Rattle.laws.proofs.Reach.{by-test}
 use Rattle.laws.proofs.Goes.{default-goes}
 use Rattle.lexer.specs.declared.tokens.Line.{Line}
-use Rattle.leaves.specs.declared.Answer.{Answer}
-use Rattle.leaves.specs.declared.Answer.TheVariants as answer
-use Rattle.leaves.specs.Answers.{Answers, standing}
+use Rattle.definitions.specs.Refused.{refused_as}
+use Rattle.std.specs.Prelude.{Ok, Err}
+use Rattle.leaves.specs.declared.Position.{Position}
+use Rattle.leaves.specs.Answers.{Answer, Answers}
+use Rattle.entries.specs.declared.Entry.{Entry}
+use Rattle.entries.specs.Noted.{standing}
 use Rattle.laws.proofs.Stores.{sets-append}
-use Rattle.leaves.proofs.Returns.{answer-done, answer-line, answer-no, no-answers, wrote-done, answers_by}
+use Rattle.leaves.proofs.Returns.{answer-done, answer-line, wrote-done, answers_by}
 use Rattle.entries.proofs.Wants.{within-entry, within-message}
 
 -- five words a node, and each byte in the pool
@@ -101,61 +104,55 @@ unless-next : (there : Bool) (image : List ℕ) (w : Want) (q : Spot) → Next q
 unless-next true image w q p v c e = let i : q ≡ p = cc in rw (← i) (omega arith, refl)
 unless-next false image w q p v c e = default-next image w q p v c e
 
-module _ (deep : Bool) (image : List ℕ) (w : Want) (at : Place) (q : Spot) (key value : Bool) where
-  pub closed-message : (w.kind ≡ map_entry → ⊥) → closed deep image (within w) at q.at (standing q key value) ≡ done q [] []
+module _ (deep : Bool) (image : List ℕ) (w : Want) (at : Place) (q : Spot) (entry : Entry) where
+  pub closed-message : (w.kind ≡ map_entry → ⊥) → closed deep image (within w) at q.at (standing q entry) ≡ done q [] []
   unfolding closed
   closed-message h = rw (within-message w h) refl
 
   module _ (h : w.kind ≡ map_entry) where
-    closed-entry : closed deep image (within w) at q.at (standing q key value)
-        ≡ joined (unless key (default image (want image (within w) 0)) q) (unless value (default_value deep at image (want image (within w) 1)))
+    closed-entry : closed deep image (within w) at q.at (standing q entry)
+        ≡ joined (unless entry.key (default image (want image (within w) 0)) q) (unless entry.value (default_value deep at image (want image (within w) 1)))
     unfolding closed
     closed-entry = rw (within-entry w h) refl
 
-    module _ (on : ℕ → Line) (e x f : List ℕ) (k : Want) (hk : k ≡ want image (within w) 0) (r : Answer) (a : Answers on e x f f q (unless key (default image k) q) r) where
-      first : Answers on e x f f q (unless key (default image (want image (within w) 0)) q) r
+    module _ (on : ℕ → Line) (e x f : List ℕ) (k : Want) (hk : k ≡ want image (within w) 0) (p : Position) (a : Answers on e x f f q (unless entry.key (default image k) q) (Ok p)) (lx : length x ≡ length e) where
+      first : Answers on e x f f q (unless entry.key (default image (want image (within w) 0)) q) (Ok p)
       first = rw (← hk) a
 
-      pub key-no : (why : ℕ) (p : Place) → r ≡ answer.No why p → Answers on e x f f q (closed deep image (within w) at q.at (standing q key value)) r
-      key-no why p i =
-          let o : unless key (default image (want image (within w) 0)) q ≡ refused why p = answer-no on (unless key (default image (want image (within w) 0)) q) why p (sym i ∙ first.answer) in
-          no-answers e x f f q _ r why p (closed-entry ∙ rw o refl) i
+      out : (v : List ℕ) × (c : List ℕ) × (unless entry.key (default image (want image (within w) 0)) q ≡ done p.spot v c)
+      out = answer-done on _ p first.answer
 
-      module _ (p : Spot) {l : Line} (i : r ≡ answer.Done p l) (lx : length x ≡ length e) where
-        out : (v : List ℕ) × (c : List ℕ) × (unless key (default image (want image (within w) 0)) q ≡ done p v c)
-        out = answer-done on _ p (sym i ∙ first.answer)
+      pub key-line : p.line ≡ on p.spot.at
+      key-line = answer-line on (unless entry.key (default image (want image (within w) 0)) q) p first.answer
 
-        pub key-line : l ≡ on p.at
-        key-line = answer-line on (unless key (default image (want image (within w) 0)) q) p (sym i ∙ first.answer)
+      closed_after : closed deep image (within w) at q.at (standing q entry) ≡ ahead out.0 out.1 (unless entry.value (default_value deep at image (want image (within w) 1)) p.spot)
+      closed_after = closed-entry ∙ rw out.2 refl
 
-        closed_after : closed deep image (within w) at q.at (standing q key value) ≡ ahead out.0 out.1 (unless value (default_value deep at image (want image (within w) 1)) p)
-        closed_after = closed-entry ∙ rw out.2 refl
+      pub key-next : (p.spot.node ≤ q.node + 1) × (p.spot.byte ≡ q.byte)
+      key-next = unless-next entry.key image (want image (within w) 0) q p.spot out.0 out.1 out.2
 
-        pub key-next : (p.node ≤ q.node + 1) × (p.byte ≡ q.byte)
-        key-next = unless-next key image (want image (within w) 0) q p out.0 out.1 out.2
+      after : (y : List ℕ) (r₂ : Answer) (o : Out) → o ≡ unless entry.value (default_value deep at image (want image (within w) 1)) p.spot → ((z : Spot) (v c : List ℕ) → o ≡ done z v c → Laid p.spot z v c)
+          → Answers on x y f f p.spot o r₂ → Answers on e y f f q (closed deep image (within w) at q.at (standing q entry)) r₂
+      after y r₂ o eo lo b =
+          answers_by e y f f q _ _ r₂ (closed_after ∙ ap (ahead out.0 out.1) (sym eo))
+          (join q p.spot e x y f f f out.0 out.1 r₂ o (unless-laid entry.key image (want image (within w) 0) q p.spot out.0 out.1 out.2) lx refl
+          (wrote-done e x f f q _ p.spot out.0 out.1 out.2 first.wrote) lo b)
 
-        after : (y : List ℕ) (r₂ : Answer) (o : Out) → o ≡ unless value (default_value deep at image (want image (within w) 1)) p → ((z : Spot) (v c : List ℕ) → o ≡ done z v c → Laid p z v c)
-            → Answers on x y f f p o r₂ → Answers on e y f f q (closed deep image (within w) at q.at (standing q key value)) r₂
-        after y r₂ o eo lo b =
-            answers_by e y f f q _ _ r₂ (closed_after ∙ ap (ahead out.0 out.1) (sym eo))
-            (join q p e x y f f f out.0 out.1 r₂ o (unless-laid key image (want image (within w) 0) q p out.0 out.1 out.2) lx refl
-            (wrote-done e x f f q _ p out.0 out.1 out.2 first.wrote) lo b)
+      pub value_there : entry.value ≡ true → Answers on e x f f q (closed deep image (within w) at q.at (standing q entry)) (Ok p)
+      value_there v =
+          after x (Ok p) (done p.spot [] []) (rw v refl)
+          (λ z v c n. let i : p.spot ≡ z = cc in let j : [] ≡ v = cc in let k : [] ≡ c = cc in rw (← i, ← j, ← k) (record { words = omega arith; bytes = omega arith }))
+          (record { answer = ap (λ (l : Line). Ok (record { spot = p.spot; line = l })) key-line; wrote = λ _ _. (refl, refl) })
 
-        pub value_there : value ≡ true → Answers on e x f f q (closed deep image (within w) at q.at (standing q key value)) (answer.Done p l)
-        value_there v =
-            after x (answer.Done p l) (done p [] []) (rw v refl)
-            (λ z v c n. let i : p ≡ z = cc in let j : [] ≡ v = cc in let k : [] ≡ c = cc in rw (← i, ← j, ← k) (record { words = omega arith; bytes = omega arith }))
-            (record { answer = ap (answer.Done p) key-line; wrote = λ _ _. (refl, refl) })
+      module _ (v : entry.value ≡ false) (u : Want) (hu : u ≡ want image (within w) 1) where
+        pub value-deep : true ≡ (deep && eqb u.kind body) → Answers on e x f f q (closed deep image (within w) at q.at (standing q entry)) (Err (refused_as too_deep at))
+        unfolding default_value
+        value-deep d =
+            after x (Err (refused_as too_deep at)) (refused too_deep at) (rw (v, ← hu, ← d) refl)
+            (λ z v c n. cc)
+            (record { answer = refl; wrote = tt })
 
-        module _ (v : value ≡ false) (u : Want) (hu : u ≡ want image (within w) 1) where
-          pub value-deep : true ≡ (deep && eqb u.kind body) → Answers on e x f f q (closed deep image (within w) at q.at (standing q key value)) (answer.No too_deep at)
-          unfolding default_value
-          value-deep d =
-              after x (answer.No too_deep at) (refused too_deep at) (rw (v, ← hu, ← d) refl)
-              (λ z v c n. let k : ◌≡◌ {A = ℕ} 0 1 = cc in absurd (omega arith))
-              (record { answer = refl; wrote = tt })
-
-          pub value_made : false ≡ (deep && eqb u.kind body) → (y : List ℕ) (r₂ : Answer) → Answers on x y f f p (default image u p) r₂
-              → Answers on e y f f q (closed deep image (within w) at q.at (standing q key value)) r₂
-          unfolding default_value
-          value_made d y r₂ b = after y r₂ (default image u p) (rw (v, ← hu, ← d) refl) (λ z v c n. default-laid image u p z v c n) b
+        pub value_made : false ≡ (deep && eqb u.kind body) → (y : List ℕ) (r₂ : Answer) → Answers on x y f f p.spot (default image u p.spot) r₂
+            → Answers on e y f f q (closed deep image (within w) at q.at (standing q entry)) r₂
+        unfolding default_value
+        value_made d y r₂ b = after y r₂ (default image u p.spot) (rw (v, ← hu, ← d) refl) (λ z v c n. default-laid image u p.spot z v c n) b

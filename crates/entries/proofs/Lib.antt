@@ -1,4 +1,3 @@
 -- Laws that the proofs of the readers cite.
 pub mod Wants
 pub mod Joins
-pub mod Noted

@@ -8,7 +8,6 @@ use native.Mathlib.Omega.{arith}
 use lib.Dec.{leb, ltb, eqb}
 use borrow.Author.Tests.{eq-eqb, ne_eqb, ltb-true, le-leb, lt-ltb, eqb-true, eqb-false}
 use Rattle.definitions.specs.declared.Want.{Want}
-use Rattle.definitions.specs.declared.Field.{Field}
 use Rattle.definitions.specs.Basics.{when◌then◌otherwise◌, same}
 use Rattle.definitions.specs.Image.{accepted, field_count, message, field, is_map, find_field}
 use Rattle.definitions.specs.Scope.{Scope, in_message, in_entry, key_name, value_name, want, within, nests, has_field, find_in, map_entry, body}
@@ -16,6 +15,7 @@ use Rattle.laws.proofs.Reach.{by-test}
 use Rattle.laws.proofs.Lists.{find-some, and_parts}
 use Rattle.records.proofs.Room.{field_count-lt}
 use Rattle.records.proofs.Accepted.{Good, message-inside, field-has, reference-enum, reference-message, kind-range, key-range}
+use Rattle.nodes.specs.Span.{There}
 use Rattle.leaves.specs.Answers.{Fits, Inside}
 
 -- ---- scopes
@@ -75,23 +75,14 @@ inside-below image w i a f n h b =
     let z = and_parts (leb (message image w.reference).first i) (ltb i ((message image w.reference).first + (message image w.reference).count)) k in
     omega (arith, ltb-true i ((message image w.reference).first + (message image w.reference).count) z.1, message-inside image a w.reference (f.messages b))
 
-module _ (image : List ℕ) (g i : ℕ) (f : Field) where
-  pub want-key : i ≡ 0 → f ≡ field image g → record { kind = f.key; reference = 0; field = 0 } ≡ want image (in_entry g) i
-  unfolding want
-  want-key h e = rw (e, eq-eqb _ _ h) refl
-
-  pub want-value : (i ≡ 0 → ⊥) → f ≡ field image g → record { kind = f.kind; reference = f.reference; field = 1 } ≡ want image (in_entry g) i
-  unfolding want
-  want-value h e = rw (e, ne_eqb _ _ h) refl
-
-module _ (image : List ℕ) (m i : ℕ) (f : Field) where
-  pub want-map : f.label ≡ 3 → f ≡ field image i → record { kind = map_entry; reference = i; field = i } ≡ want image (in_message m) i
-  unfolding want
-  want-map h e = rw (← e, eq-eqb _ _ h) refl
-
-  pub want-plain : (f.label ≡ 3 → ⊥) → f ≡ field image i → record { kind = f.kind; reference = f.reference; field = i } ≡ want image (in_message m) i
-  unfolding want
-  want-plain h e = rw (← e, ne_eqb _ _ h) refl
+-- the message or entry is the schema's
+pub scope-there : (image : List ℕ) (w : Want) → Fits image w → nests w.kind ≡ true → There image (within w)
+unfolding There
+scope-there image w f n = go (eqb w.kind map_entry) refl
+  where
+    go : (b : Bool) → eqb w.kind map_entry ≡ b → There image (within w)
+    go true e = let k = eqb-true w.kind map_entry e in rw (within-entry w k) (f.maps k).0
+    go false e = let k = eqb-false w.kind map_entry e in rw (within-message w k) (f.messages (nests-message w n k))
 
 pub nests-entry : (w : Want) → w.kind ≡ map_entry → nests w.kind ≡ true
 nests-entry w h = rw h refl

@@ -1,33 +1,33 @@
 -- The texts around a value and of a number, case by case, as the code takes them apart; and what an accepted image has of a field that is printed.
 use mathlib.Core.Path.{◌≡◌, refl, sym, ap}
-use mathlib.Core.Logic.{◌⊎◌, ⊎_elim}
-use Prim.Native.Nat.{ℕ, ◌+◌, ◌-◌, ◌*◌, ◌%◌, ◌≤◌, ◌<◌}
+use Prim.Native.Nat.{ℕ, ◌+◌, ◌-◌, ◌*◌, ◌≤◌, ◌<◌}
 use mathlib.Core.Bool.{Bool, true, false}
 use mathlib.Core.List.{List, [], ◌∷◌, ◌++◌}
-use mathlib.Core.Option.{Option, none, some}
+use mathlib.Core.Option.{Option}
 use native.Mathlib.Omega.{arith}
 use lib.Dec.{eqb}
 use lib.ListN.{length, replicate-append-replicate, length-replicate}
-use borrow.Author.Tests.{eq-eqb, ne_eqb, lt-ltb, le-ltb, eqb-false}
+use borrow.Author.Tests.{eq-eqb, ne_eqb, lt-ltb, le-ltb}
 use Rattle.definitions.specs.declared.Node.{Node}
 use Rattle.definitions.specs.declared.Want.{Want}
-use Rattle.definitions.specs.Image.{field, field_name, member, member_name, field_count, enum_count, value_count, name_count, enumeration, find_number}
+use Rattle.definitions.specs.Image.{field_name, member, member_name, field_count, enum_count, value_count, enumeration, find_number}
 use Rattle.definitions.specs.Scope.{within, name_in, key_name, value_name, nests}
-use Rattle.definitions.specs.Nodes.{word32, is_run, run_of, number_of}
+use Rattle.definitions.specs.Nodes.{is_run, run_of, number_of}
 use Rattle.definitions.specs.Live.{value_of}
-use Rattle.definitions.specs.Print.{indent, lead, trail, opening, closing, label, decimal, signed_decimal, member_text, number_text, quoted}
+use Rattle.definitions.specs.Print.{indent, label, decimal, signed_decimal, member_text, number_text, quoted}
 use Rattle.laws.proofs.Lists.{find-some}
 use Rattle.records.specs.declared.Layout.{Layout}
-use Rattle.records.specs.declared.Found.TheVariants as found
-use Rattle.records.specs.Known.{Placed, Known, found_of}
-use Rattle.records.proofs.Accepted.{known-placed, enum-inside, field-has, member-has}
+use Rattle.std.specs.Prelude.{Some, None}
+use Rattle.records.proofs.Search.{option_some, option_none}
+use Rattle.records.specs.Known.{Known, option_of}
+use Rattle.records.proofs.Accepted.{enum-inside}
 use Rattle.spelling.specs.Written.{Written, Room}
-use Rattle.fields.specs.Fields.{style_of, Ranked, bool_text, plain_text}
+use Rattle.fields.specs.Fields.{Ranked, plain_text}
 use Rattle.nodes.specs.Span.{There}
 use Rattle.nodes.proofs.Scopes.{within-entry, within-message, inside-message}
 use Rattle.spelling.proofs.Texts.{then-written, as_written, as_room, room-first}
 
--- ---- styles
+-- ---- indents
 
 pub indent-more : (l : ℕ) → indent (l + 1) ≡ indent l ++ (32 ∷ 32 ∷ [])
 unfolding indent
@@ -52,43 +52,6 @@ indent-room l d h r f = record { fits = omega (arith, r.fits, f.ends, indent-cou
 pub indent-all : {a b : List ℕ} {at r : ℕ} (l d : ℕ) → l ≤ d → d ≤ l → Written a at (indent l) b r → Written a at (indent d) b r
 indent-all l d h k f = as_written (ap indent (omega arith)) f
 
-module _ (p : Bool) where
-  pub lead-pretty : (d : ℕ) (first : Bool) → p ≡ true → lead (style_of p) d first ≡ indent d
-  unfolding lead
-  lead-pretty d first h = rw h
-
-  pub lead-first : (d : ℕ) (first : Bool) → p ≡ false → first ≡ true → lead (style_of p) d first ≡ []
-  unfolding lead
-  lead-first d first h k = rw (h, k)
-
-  pub lead-next : (d : ℕ) (first : Bool) → p ≡ false → first ≡ false → lead (style_of p) d first ≡ 32 ∷ []
-  unfolding lead
-  lead-next d first h k = rw (h, k)
-
-  pub trail-pretty : p ≡ true → trail (style_of p) ≡ 10 ∷ []
-  unfolding trail
-  trail-pretty h = rw h
-
-  pub trail-compact : p ≡ false → trail (style_of p) ≡ []
-  unfolding trail
-  trail-compact h = rw h
-
-  pub opening-pretty : p ≡ true → opening (style_of p) ≡ 32 ∷ 123 ∷ 10 ∷ []
-  unfolding opening
-  opening-pretty h = rw h
-
-  pub opening-compact : p ≡ false → opening (style_of p) ≡ 32 ∷ 123 ∷ []
-  unfolding opening
-  opening-compact h = rw h
-
-  pub closing-pretty : (d : ℕ) → p ≡ true → closing (style_of p) d ≡ indent d ++ (125 ∷ [])
-  unfolding closing
-  closing-pretty d h = rw h
-
-  pub closing-compact : (d : ℕ) → p ≡ false → closing (style_of p) d ≡ 125 ∷ []
-  unfolding closing
-  closing-compact d h = rw h
-
 -- ---- labels
 
 module _ (s : List ℕ) (w : Want) (r : ℕ) where
@@ -110,59 +73,21 @@ module _ (s : List ℕ) (w : Want) (r : ℕ) where
 
 -- ---- names of an accepted image
 
-pub named-field : {l : Layout} (s : List ℕ) (w : Want) (r : ℕ) → Known s l → There s (within w) → Ranked s (within w) r → r < 4096 → (w.kind ≡ 10 → ⊥)
-    → Placed s l × (r < field_count s) × ((field s r).start + (field s r).length ≤ name_count s)
-named-field s w r known t ranked h k =
-    let less : r < field_count s = inside-message s known.good w r k t (ranked h) in
-    (known-placed known, less, (field-has s known.good r less).name.inside)
+pub named-field : {l : Layout} (s : List ℕ) (w : Want) (r : ℕ) → Known s l → There s (within w) → Ranked s (within w) r → r < 4096 → (w.kind ≡ 10 → ⊥) → r < field_count s
+named-field s w r known t ranked h k = inside-message s known.good w r k t (ranked h)
 
--- the value that a number's lookup finds
-found_some : (o : Option ℕ) (i : ℕ) → found_of o ≡ found.At i → o ≡ some i
-found_some none i e = cc
-found_some (some j) i e = cc
-
-found_none : (o : Option ℕ) → found_of o ≡ found.Nothing → o ≡ none
-found_none none e = refl
-found_none (some j) e = cc
-
-pub named-member : {l : Layout} (s : List ℕ) (e n i : ℕ) → Known s l → e < enum_count s → found_of (find_number s e n) ≡ found.At i
-    → Placed s l × (i < value_count s) × ((member s i).start + (member s i).length ≤ name_count s)
+pub named-member : {l : Layout} (s : List ℕ) (e n i : ℕ) → Known s l → e < enum_count s → Some i ≡ option_of (find_number s e n) → i < value_count s
 unfolding find_number
 named-member s e n i known h q =
-    let f = find-some (λ i. eqb (member s i).number n) (enumeration s e).first (enumeration s e).count i (found_some (find_number s e n) i q) in
-    let less : i < value_count s = omega (arith, f.below, enum-inside s known.good e h) in
-    (known-placed known, less, (member-has s known.good i less).name.inside)
+    let f = find-some (λ i. eqb (member s i).number n) (enumeration s e).first (enumeration s e).count i (option_some (find_number s e n) q) in
+    omega (arith, f.below, enum-inside s known.good e h)
 
-module _ (s : List ℕ) (e n m : ℕ) where
-  pub member-named : (i : ℕ) → found_of (find_number s e m) ≡ found.At i → member_text s n (find_number s e m) ≡ member_name s i
-  member-named i q = rw (found_some (find_number s e m) i q)
+module _ (s : List ℕ) (n : ℕ) where
+  pub member-named : (o : Option ℕ) (i : ℕ) → Some i ≡ option_of o → member_text s n o ≡ member_name s i
+  member-named o i q = rw (option_some o q)
 
-  pub member-unnamed : found_of (find_number s e m) ≡ found.Nothing → member_text s n (find_number s e m) ≡ (58 ∷ 32 ∷ []) ++ signed_decimal n
-  member-unnamed q = rw (found_none (find_number s e m) q)
-
--- ---- numbers
-
-module _ (s : List ℕ) (w : Want) (kind n : ℕ) where
-  pub number-signed : 1 ≤ kind → kind < 3 → number_text s w kind n ≡ signed_decimal n
-  unfolding number_text
-  number-signed h k = go (eqb kind 1) refl
-    where
-      go : (t : Bool) → eqb kind 1 ≡ t → number_text s w kind n ≡ signed_decimal n
-      go true e = rw (e, number_text)
-      go false e = rw (e, eq-eqb kind 2 (omega (arith, eqb-false kind 1 e)), number_text)
-
-  pub number-bool : kind ≡ 5 → number_text s w kind n ≡ bool_text n
-  unfolding number_text
-  number-bool h = rw h
-
-  pub number-enum : kind ≡ 8 → number_text s w kind n ≡ member_text s n (find_number s w.reference (n % word32))
-  unfolding number_text
-  number-enum h = rw h
-
-  pub number-plain : (kind < 1) ⊎ (3 ≤ kind) → (kind ≡ 5 → ⊥) → (kind ≡ 8 → ⊥) → number_text s w kind n ≡ decimal n
-  unfolding number_text
-  number-plain h k l =
-      rw (ne_eqb kind 1 (λ z. ⊎_elim (λ x. omega arith) (λ x. omega arith) h), ne_eqb kind 2 (λ z. ⊎_elim (λ x. omega arith) (λ x. omega arith) h), ne_eqb kind 5 k, ne_eqb kind 8 l)
+  pub member-unnamed : (o : Option ℕ) → None ≡ option_of o → member_text s n o ≡ (58 ∷ 32 ∷ []) ++ signed_decimal n
+  member-unnamed o q = rw (option_none o q)
 
 -- ---- values that hold no nodes
 

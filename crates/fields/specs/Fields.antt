@@ -8,10 +8,18 @@ use Rattle.definitions.specs.Scope.{Scope, has_field, nests, enum}
 use Rattle.definitions.specs.Nodes.{is_run}
 use Rattle.definitions.specs.Live.{first_unknown, value_of}
 use Rattle.definitions.specs.Print.{Style, compact, pretty, value_text}
+use Rattle.fields.specs.declared.Style as code
+use Rattle.fields.specs.declared.Style.TheVariants.{Compact, Pretty}
 
+-- pretty where it is asked for
 abbrev pub style_of : Bool → Style
 style_of true = pretty
 style_of false = compact
+
+-- a style of the code
+abbrev pub styled : code.Style → Style
+styled Compact = compact
+styled Pretty = pretty
 
 -- a rank below those of unknown fields is a field of the scope
 abbrev pub Ranked : List ℕ → Scope → ℕ → Type 0

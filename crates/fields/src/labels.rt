@@ -3,14 +3,14 @@
 ghost use Rattle.std.specs.Prelude.{◌++◌};
 ghost use Rattle.definitions.specs.Scope.{within};
 ghost use Rattle.definitions.specs.Print.{indent, lead, label, trail, opening, closing};
-ghost use Rattle.records.specs.Known.{Known};
 ghost use Rattle.nodes.specs.Span.{There};
 ghost use Rattle.spelling.specs.Written.{Written, Room};
-ghost use Rattle.fields.specs.Fields.{style_of, Ranked};
+ghost use Rattle.fields.specs.Fields.{styled, Ranked};
 
+use crate::Style;
 use definitions::limits::FIRST_UNKNOWN;
 use definitions::{Want, kinds};
-use records::Layout;
+use records::Schema;
 use spelling::numbers::print_decimal;
 use spelling::put::{put_byte, put_slice};
 
@@ -19,44 +19,34 @@ fn do_indent(depth: usize, buffer: &mut [u8], at: usize) -> usize
     ensures { Written buffer.old at (indent depth) buffer.new result }
 {
     let mut after = at;
-    let mut level = 0;
-    while level < depth {
+    for _level in 0..depth {
         after = put_slice(b"  ", buffer, after);
-        level += 1;
     }
     after
 }
 
-fn print_lead(pretty: bool, depth: usize, first: bool, buffer: &mut [u8], at: usize) -> usize
-    requires { Room at (lead (style_of pretty) depth first) }
-    ensures { Written buffer.old at (lead (style_of pretty) depth first) buffer.new result }
+#[tactic(auto, unfolding(definitions::specs::Print::lead))]
+fn print_lead(style: Style, depth: usize, first: bool, buffer: &mut [u8], at: usize) -> usize
+    requires { Room at (lead (styled style) depth first) }
+    ensures { Written buffer.old at (lead (styled style) depth first) buffer.new result }
 {
-    if pretty {
-        return do_indent(depth, buffer, at);
+    match style {
+        Style::Pretty => do_indent(depth, buffer, at),
+        Style::Compact if first => at,
+        Style::Compact => put_byte(b' ', buffer, at),
     }
-    if first {
-        return at;
-    }
-    put_byte(b' ', buffer, at)
 }
 
 // A field's name; an unknown field's number stands in its place.
-fn print_label(
-    image: &[u8],
-    layout: Layout,
-    w: Want,
-    rank: usize,
-    buffer: &mut [u8],
-    at: usize,
-) -> usize
-    requires { Known image.now layout × There image.now (within w) × Ranked image.now (within w) rank × Room at (label image.now (within w) rank) }
-    ensures { Written buffer.old at (label image.now (within w) rank) buffer.new result }
+fn print_label(schema: &Schema, w: Want, rank: usize, buffer: &mut [u8], at: usize) -> usize
+    requires { There schema.now.image.now (within w) × Ranked schema.now.image.now (within w) rank × Room at (label schema.now.image.now (within w) rank) }
+    ensures { Written buffer.old at (label schema.now.image.now (within w) rank) buffer.new result }
 {
     if rank >= FIRST_UNKNOWN {
         return print_decimal((rank - FIRST_UNKNOWN) as u64, buffer, at);
     }
     if w.kind != kinds::ENTRY {
-        return put_slice(records::field_name(image, layout, rank), buffer, at);
+        return put_slice(schema.field_name(rank), buffer, at);
     }
     if rank == 0 {
         return put_slice(b"key", buffer, at);
@@ -64,52 +54,55 @@ fn print_label(
     put_slice(b"value", buffer, at)
 }
 
+#[inline(always)]
 pub fn print_start_field(
-    image: &[u8],
-    layout: Layout,
+    schema: &Schema,
     w: Want,
     rank: usize,
-    pretty: bool,
+    style: Style,
     depth: usize,
     first: bool,
     buffer: &mut [u8],
     at: usize,
 ) -> usize
-    requires { Known image.now layout × There image.now (within w) × Ranked image.now (within w) rank × Room at (lead (style_of pretty) depth first ++ label image.now (within w) rank) }
-    ensures { Written buffer.old at (lead (style_of pretty) depth first ++ label image.now (within w) rank) buffer.new result }
+    requires { There schema.now.image.now (within w) × Ranked schema.now.image.now (within w) rank × Room at (lead (styled style) depth first ++ label schema.now.image.now (within w) rank) }
+    ensures { Written buffer.old at (lead (styled style) depth first ++ label schema.now.image.now (within w) rank) buffer.new result }
 {
-    let after = print_lead(pretty, depth, first, buffer, at);
-    print_label(image, layout, w, rank, buffer, after)
+    let after = print_lead(style, depth, first, buffer, at);
+    print_label(schema, w, rank, buffer, after)
 }
 
-pub fn print_end_field(pretty: bool, buffer: &mut [u8], at: usize) -> usize
-    requires { Room at (trail (style_of pretty)) }
-    ensures { Written buffer.old at (trail (style_of pretty)) buffer.new result }
+#[tactic(auto, unfolding(definitions::specs::Print::trail))]
+pub fn print_end_field(style: Style, buffer: &mut [u8], at: usize) -> usize
+    requires { Room at (trail (styled style)) }
+    ensures { Written buffer.old at (trail (styled style)) buffer.new result }
 {
-    if pretty {
-        return put_byte(b'\n', buffer, at);
+    match style {
+        Style::Compact => at,
+        Style::Pretty => put_byte(b'\n', buffer, at),
     }
-    at
 }
 
 // Messages and entries: `name {` body `}`; pretty has a newline after `{`, and `}` under the name.
-pub fn print_opening(pretty: bool, buffer: &mut [u8], at: usize) -> usize
-    requires { Room at (opening (style_of pretty)) }
-    ensures { Written buffer.old at (opening (style_of pretty)) buffer.new result }
+#[tactic(auto, unfolding(definitions::specs::Print::opening))]
+pub fn print_opening(style: Style, buffer: &mut [u8], at: usize) -> usize
+    requires { Room at (opening (styled style)) }
+    ensures { Written buffer.old at (opening (styled style)) buffer.new result }
 {
-    if pretty {
-        return put_slice(b" {\n", buffer, at);
+    match style {
+        Style::Compact => put_slice(b" {", buffer, at),
+        Style::Pretty => put_slice(b" {\n", buffer, at),
     }
-    put_slice(b" {", buffer, at)
 }
 
-pub fn print_closing(pretty: bool, depth: usize, buffer: &mut [u8], at: usize) -> usize
-    requires { Room at (closing (style_of pretty) depth) }
-    ensures { Written buffer.old at (closing (style_of pretty) depth) buffer.new result }
+#[tactic(auto, unfolding(definitions::specs::Print::closing))]
+pub fn print_closing(style: Style, depth: usize, buffer: &mut [u8], at: usize) -> usize
+    requires { Room at (closing (styled style) depth) }
+    ensures { Written buffer.old at (closing (styled style) depth) buffer.new result }
 {
-    if pretty {
-        let after = do_indent(depth, buffer, at);
-        return put_byte(b'}', buffer, after);
-    }
-    put_byte(b'}', buffer, at)
+    let after = match style {
+        Style::Compact => at,
+        Style::Pretty => do_indent(depth, buffer, at),
+    };
+    put_byte(b'}', buffer, after)
 }

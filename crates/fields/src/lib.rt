@@ -3,3 +3,10 @@
 
 pub mod labels;
 pub mod values;
+
+// The two prints of a table: on one line, or a field to a line.
+#[derive(Clone, Copy, PartialEq, Eq)]
+pub enum Style {
+    Compact,
+    Pretty,
+}

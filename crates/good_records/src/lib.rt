@@ -1,81 +1,50 @@
 // The acceptance rule for one record after another: names, key types, types and references, zero bits.
 #![tactic(auto)]
 
-ghost use Rattle.std.specs.Prelude.{◌≡◌, ◌+◌, ◌≤◌, ◌<◌, length};
+ghost use Rattle.std.specs.Prelude.{◌≡◌, ◌<◌};
 ghost use Rattle.definitions.specs.Basics as basic;
 ghost use Rattle.definitions.specs.Image as spec;
-ghost use Rattle.records.specs.Known.{Placed};
 
 use definitions::{Field, kinds, labels};
-use records::{
-    FIELD, Layout, VALUE, enum_count, field, field_count, field_zero, member, member_zero,
-    message_count, name, name_count, value_count,
-};
+use records::Tables;
 
 // ---- names: a letter or `_`, then letters, digits, `_`
 
 fn letter(b: u8) -> bool
     ensures { result ≡ spec.letter b }
 {
-    if b == b'_' {
-        return true;
-    }
-    if b < b'A' {
-        return false;
-    }
-    if b <= b'Z' {
-        return true;
-    }
-    if b < b'a' {
-        return false;
-    }
-    b <= b'z'
+    matches!(b, b'a'..=b'z' | b'A'..=b'Z' | b'_')
 }
 
 fn word(b: u8) -> bool
     ensures { result ≡ spec.word b }
 {
-    if letter(b) {
-        return true;
-    }
-    if b < b'0' {
-        return false;
-    }
-    b <= b'9'
+    letter(b) || matches!(b, b'0'..=b'9')
 }
 
+fn words(text: &[u8]) -> bool
+    ensures { result ≡ basic.each spec.word text.now }
+{
+    text.iter().all(|b| word(*b))
+}
+
+#[tactic(auto, unfolding(definitions::specs::Image::identifier))]
 fn identifier(text: &[u8]) -> bool
     ensures { result ≡ spec.identifier text.now }
 {
-    if text.len() == 0 {
-        return false;
+    match text {
+        [first, rest @ ..] => letter(*first) && words(rest),
+        [] => false,
     }
-    if !letter(text[0]) {
-        return false;
-    }
-    let mut i = 1;
-    while i < text.len() {
-        if !word(text[i]) {
-            return false;
-        }
-        i += 1;
-    }
-    true
 }
 
 // A name lies inside the name bytes.
-fn name_good(image: &[u8], layout: Layout, start: usize, count: usize) -> bool
-    requires { Placed image.now layout }
-    ensures { result ≡ spec.name_good image.now start count }
+#[tactic(auto, unfolding(definitions::specs::Image::name_good))]
+fn name_good(tables: &Tables, start: usize, count: usize) -> bool
+    ensures { result ≡ spec.name_good tables.now.image.now start count }
 {
-    let names = name_count(image);
-    if names < start {
-        return false;
-    }
-    if names - start < count {
-        return false;
-    }
-    identifier(name(image, layout, start, count))
+    let names = tables.name_count();
+    start <= names && count <= names - start && identifier(tables.name(start, count))
 }
 
 // ---- fields and values
@@ -84,96 +53,59 @@ fn name_good(image: &[u8], layout: Layout, start: usize, count: usize) -> bool
 fn key_good(field: Field) -> bool
     ensures { result ≡ spec.key_good field }
 {
-    if field.label != labels::MAP {
-        return field.key == 0;
+    match field.label {
+        labels::MAP => matches!(field.key, kinds::I32..=kinds::STRING),
+        _ => field.key == 0,
     }
-    if field.key < kinds::I32 {
-        return false;
-    }
-    field.key <= kinds::STRING
 }
 
 // Types 1 to 9; the reference is an enum or message that exists for types 8 and 9, else 0.
-fn type_good(image: &[u8], field: Field) -> bool
-    requires { 8 ≤ length image.now }
-    ensures { result ≡ spec.type_good image.now field }
+#[tactic(auto, unfolding(definitions::specs::Image::type_good))]
+fn type_good(tables: &Tables, field: Field) -> bool
+    ensures { result ≡ spec.type_good tables.now.image.now field }
 {
-    if field.kind == kinds::ENUM {
-        return field.reference < enum_count(image);
+    match field.kind {
+        kinds::ENUM => field.reference < tables.enum_count(),
+        kinds::MESSAGE => field.reference < tables.message_count(),
+        kinds::I32..=kinds::BYTES => field.reference == 0,
+        _ => false,
     }
-    if field.kind == kinds::MESSAGE {
-        return field.reference < message_count(image);
-    }
-    if field.kind < kinds::I32 {
-        return false;
-    }
-    if kinds::BYTES < field.kind {
-        return false;
-    }
-    field.reference == 0
 }
 
 // A field: a good name, a number from 1 on, a good key type and type, and zero bits at the end.
-fn field_good(image: &[u8], layout: Layout, index: usize) -> bool
-    requires { Placed image.now layout × (index < spec.field_count image.now) }
-    ensures { result ≡ spec.field_good image.now index }
+#[tactic(auto, using(records::proofs::Room::field_number_most), unfolding(definitions::specs::Image::field_good))]
+fn field_good(tables: &Tables, index: usize) -> bool
+    requires { index < spec.field_count tables.now.image.now }
+    ensures { result ≡ spec.field_good tables.now.image.now index }
 {
-    let record = field(image, layout, index);
-    if !name_good(image, layout, record.start, record.length) {
-        return false;
-    }
+    let record = tables.field(index);
     // 29 bits hold no number above the greatest.
-    if record.number < 1 {
-        return false;
-    }
-    if !key_good(record) {
-        return false;
-    }
-    if !type_good(image, record) {
-        return false;
-    }
-    field_zero(image, layout.fields + FIELD * index) == 0
+    name_good(tables, record.start, record.length)
+        && record.number >= 1
+        && key_good(record)
+        && type_good(tables, record)
+        && tables.field_zero(index) == 0
 }
 
 // An enum value: a good name, and zero bits at the end.
-fn member_good(image: &[u8], layout: Layout, index: usize) -> bool
-    requires { Placed image.now layout × (index < spec.value_count image.now) }
-    ensures { result ≡ spec.member_good image.now index }
+#[tactic(auto, unfolding(definitions::specs::Image::member_good))]
+fn member_good(tables: &Tables, index: usize) -> bool
+    requires { index < spec.value_count tables.now.image.now }
+    ensures { result ≡ spec.member_good tables.now.image.now index }
 {
-    let record = member(image, layout, index);
-    if !name_good(image, layout, record.start, record.length) {
-        return false;
-    }
-    member_zero(image, layout.values + VALUE * index) == 0
+    let record = tables.member(index);
+    name_good(tables, record.start, record.length) && tables.member_zero(index) == 0
 }
 
 // Each field, and each enum value, of the whole image.
-pub fn fields_good(image: &[u8], layout: Layout) -> bool
-    requires { Placed image.now layout }
-    ensures { result ≡ basic.all (spec.field_count image.now) (spec.field_good image.now) }
+pub fn fields_good(tables: &Tables) -> bool
+    ensures { result ≡ basic.all (spec.field_count tables.now.image.now) (spec.field_good tables.now.image.now) }
 {
-    let count = field_count(image);
-    let mut i = 0;
-    while i < count {
-        if !field_good(image, layout, i) {
-            return false;
-        }
-        i += 1;
-    }
-    true
+    (0..tables.field_count()).all(|i| field_good(tables, i))
 }
 
-pub fn members_good(image: &[u8], layout: Layout) -> bool
-    requires { Placed image.now layout }
-    ensures { result ≡ basic.all (spec.value_count image.now) (spec.member_good image.now) }
+pub fn members_good(tables: &Tables) -> bool
+    ensures { result ≡ basic.all (spec.value_count tables.now.image.now) (spec.member_good tables.now.image.now) }
 {
-    let count = value_count(image);
-    let mut i = 0;
-    while i < count {
-        if !member_good(image, layout, i) {
-            return false;
-        }
-        i += 1;
-    }
-    true
+    (0..tables.value_count()).all(|i| member_good(tables, i))
 }

@@ -1,103 +1,86 @@
-// The records of an accepted image by any index: what there is none of has no name, no number and no kind.
-ghost use Rattle.records.specs.Known.{Known};
+// The records of a schema by any index: there may be none of it.
+use definitions::{Field, Member, Span, kinds};
+use records::Schema;
+use std::ops::Range;
 
-use definitions::{Field, Member, Span};
-use records::{Found, Layout};
-use streams::line;
-
-const NO_FIELD: Field = Field {
-    start: 0,
-    length: 0,
-    number: 0,
-    label: 0,
-    key: 0,
-    kind: 0,
-    reference: 0,
-};
-
-const NO_MEMBER: Member = Member {
-    start: 0,
-    length: 0,
-    number: 0,
-};
-
-const NO_RUN: Span = Span { first: 0, count: 0 };
-
-pub fn messages(image: &[u8], layout: Layout) -> usize
-    requires { Known image.now layout }
-{
-    records::message_count(image)
+// What names belong to in a schema: a message has its fields, an enum its values.
+#[derive(Clone, Copy, PartialEq, Eq)]
+pub enum Owner {
+    Message,
+    Enum,
 }
 
-pub fn enums(image: &[u8], layout: Layout) -> usize
-    requires { Known image.now layout }
-{
-    records::enum_count(image)
+fn indices(run: Span) -> Range<usize> {
+    run.first..run.first.saturating_add(run.count)
 }
 
-// The fields of a message.
-pub fn message(image: &[u8], layout: Layout, index: usize) -> Span
-    requires { Known image.now layout }
-{
-    if records::message_count(image) <= index {
-        return NO_RUN;
+impl Owner {
+    // What the fields of a kind refer to, if it is a message or an enum.
+    // Kept: the kind is a number, as definitions' kinds are.
+    pub fn of_kind(kind: u8) -> Option<Owner> {
+        match kind {
+            kinds::MESSAGE => Some(Owner::Message),
+            kinds::ENUM => Some(Owner::Enum),
+            _ => None,
+        }
     }
-    records::message(image, index)
+
+    // The kind of the fields that refer to one.
+    pub fn kind(self) -> u8 {
+        match self {
+            Owner::Message => kinds::MESSAGE,
+            Owner::Enum => kinds::ENUM,
+        }
+    }
+
+    // How many messages, or enums, there are.
+    pub fn count(self, schema: &Schema) -> usize {
+        match self {
+            Owner::Message => schema.message_count(),
+            Owner::Enum => schema.enum_count(),
+        }
+    }
+
+    // The fields of a message, or the values of an enum.
+    pub fn run(self, schema: &Schema, index: usize) -> Range<usize> {
+        match self {
+            Owner::Message if index < schema.message_count() => indices(schema.message(index)),
+            Owner::Enum if index < schema.enum_count() => indices(schema.enumeration(index)),
+            _ => 0..0,
+        }
+    }
+
+    // A field's name, or an enum value's.
+    pub fn name<'a>(self, schema: &Schema<'a>, index: usize) -> &'a [u8] {
+        match self {
+            Owner::Message if index < schema.field_count() => schema.field_name(index),
+            Owner::Enum if index < schema.value_count() => schema.member_name(index),
+            _ => &[],
+        }
+    }
 }
 
-// The values of an enum.
-pub fn enumeration(image: &[u8], layout: Layout, index: usize) -> Span
-    requires { Known image.now layout }
-{
-    if records::enum_count(image) <= index {
-        return NO_RUN;
+pub fn field(schema: &Schema, index: usize) -> Option<Field> {
+    if index < schema.field_count() {
+        Some(schema.field(index))
+    } else {
+        None
     }
-    records::enumeration(image, layout, index)
 }
 
-pub fn field(image: &[u8], layout: Layout, index: usize) -> Field
-    requires { Known image.now layout }
-{
-    if records::field_count(image) <= index {
-        return NO_FIELD;
+pub fn member(schema: &Schema, index: usize) -> Option<Member> {
+    if index < schema.value_count() {
+        Some(schema.member(index))
+    } else {
+        None
     }
-    records::field(image, layout, index)
-}
-
-pub fn member(image: &[u8], layout: Layout, index: usize) -> Member
-    requires { Known image.now layout }
-{
-    if records::value_count(image) <= index {
-        return NO_MEMBER;
-    }
-    records::member(image, layout, index)
-}
-
-// A field's name, or an enum value's.
-pub fn name<'a>(image: &'a [u8], layout: Layout, is_field: bool, index: usize) -> &'a [u8]
-    requires { Known image.now layout }
-{
-    let bytes = line::part(image, layout.names, image.len());
-    if is_field {
-        let of_field = field(image, layout, index);
-        return line::front(
-            line::part(bytes, of_field.start, bytes.len()),
-            of_field.length,
-        );
-    }
-    let of_value = member(image, layout, index);
-    line::front(
-        line::part(bytes, of_value.start, bytes.len()),
-        of_value.length,
-    )
 }
 
 // The field of that name in a message.
-pub fn find_field(image: &[u8], layout: Layout, index: usize, name: &[u8]) -> Found
-    requires { Known image.now layout }
-{
-    if records::message_count(image) <= index {
-        return Found::Nothing;
+pub fn find_field(schema: &Schema, index: usize, name: &[u8]) -> Option<usize> {
+    if index < schema.message_count() {
+        lookup::find_field(schema, index, 0, name)
+    } else {
+        None
     }
-    lookup::find_field(image, layout, index, 0, name)
 }

@@ -2,12 +2,14 @@
 use mathlib.Core.Path.{◌≡◌, sym, ◌∙◌, refl, ap}
 use Prim.Native.Nat.{ℕ, ◌≤◌, ◌<◌, ◌-◌, ◌+◌}
 use mathlib.Core.Bool.{Bool, true, false, ◌&&◌, ◌||◌, not}
-use mathlib.Core.List.{List, []}
+use mathlib.Core.List.{List, [], ◌∷◌}
+use Rattle.std.specs.Cmp.Lexicographic.{pointwise}
+use Rattle.std.specs.Prelude.{nat_eq}
 use mathlib.Core.Option.{Option, none, some}
 use native.Mathlib.Omega.{arith}
 use lib.ListN.{length}
 use lib.Dec.{leb, eqb}
-use borrow.Author.Tests.{eq-eqb, ne_eqb, eqb-false}
+use borrow.Author.Tests.{eq-eqb, ne_eqb, eqb-true, eqb-false}
 use Rattle.definitions.specs.declared.Place.{Place}
 use Rattle.definitions.specs.declared.Spot.{Spot}
 use Rattle.definitions.specs.declared.Token.{Token}
@@ -21,84 +23,87 @@ use Rattle.definitions.specs.Utf8.{utf8}
 use Rattle.definitions.specs.Integers.{integer_value, most_unsigned, most_signed, signed}
 use Rattle.definitions.specs.Tokens.{Scan, token, bad, scan, name_token, integer_token, string_token, minus, colon}
 use Rattle.definitions.specs.Strings.{decode}
-use Rattle.definitions.specs.Loop.{refused}
+use Rattle.definitions.specs.Loop.{Out, refused}
 use Rattle.definitions.specs.Reading.{moved, number_leaf, run_leaf, integer_tok, unsigned, negated, signed_value, true_name, false_name, bool_value, enum_value, string_value, scalar, after_name, default}
 use Rattle.lexer.specs.declared.tokens.Line.{Line}
 use Rattle.lexer.specs.declared.tokens.Cursor.{Cursor}
-use Rattle.lexer.specs.declared.tokens.Step.{Step}
-use Rattle.lexer.specs.declared.tokens.Step.TheVariants as step
-use Rattle.integers.specs.declared.answers.Integer.TheVariants as number
-use Rattle.strings.specs.declared.Decoded.TheVariants as decoded
-use Rattle.records.specs.declared.Found.TheVariants as found
-use Rattle.records.specs.Known.{found_of}
-use Rattle.leaves.specs.declared.Answer.{Answer}
-use Rattle.leaves.specs.declared.Answer.TheVariants as answer
-use Rattle.lexer.specs.Steps.{line_at, cursor_at, Located, step_of}
+use Rattle.std.specs.Prelude as maybe
+use Rattle.strings.specs.declared.Decoded.{Decoded}
+use Rattle.leaves.specs.declared.Position.{Position}
+use Rattle.definitions.specs.declared.Refused.{Refused}
+use Rattle.std.specs.Prelude.{Ok, Err}
+use Rattle.lexer.specs.Steps.{cursor_at, step_of}
 use Rattle.integers.specs.Values.{integer_of}
 use Rattle.strings.specs.Values.{decoded_of}
 use Rattle.laws.proofs.Reach.{reach}
 use Rattle.laws.proofs.Decoding.{decode-length}
 use Rattle.laws.proofs.Goes.{part-le}
-use Rattle.leaves.specs.Answers.{bad_of, Reached, OnLine, Fair, signed_width, unsigned_width}
+use Rattle.leaves.proofs.Returns.{no-answers}
+use Rattle.leaves.specs.Answers.{Answers, Reached, OnLine, Fair, signed_width, unsigned_width}
 
 -- ---- what an answer of a leaf says of the definition
 
-pub scanned : (s : List ℕ) (st : Step) (sc : Scan) (t : Token) (c : Cursor) → st ≡ step_of s sc → st ≡ step.Token t c → sc ≡ token t c.at
-scanned s st (token t₁ n) t c e g =
-    let i : t ≡ t₁ = cc in
-    let j : c ≡ cursor_at s n = cc in
-    rw (i, j) refl
-scanned s st (bad p) t c e g = let z : ◌≡◌ {A = ℕ} 0 1 = cc in absurd (omega arith)
+same-pair : (t u : Token) (c d : Cursor) → ◌≡◌ {A = Token × Cursor} (t, c) (u, d) → (t ≡ u) × (c ≡ d)
+same-pair t u c d e = (ap (λ (x : Token × Cursor). x.0) e, ap (λ (x : Token × Cursor). x.1) e)
+
+pub scanned : (s : List ℕ) (sc : Scan) (t : Token) (c : Cursor) → Ok (t, c) ≡ step_of s sc → sc ≡ token t c.at
+scanned s (token t₁ n) t c e = let z = same-pair t t₁ c (cursor_at s n) cc in rw (z.0, z.1) refl
+scanned s (bad p) t c e = cc
 
 -- the cursor behind a token is on its line
-pub scanned-line : (s : List ℕ) (at : ℕ) (st : Step) (t : Token) (c : Cursor) → st ≡ step_of s (scan s at) → st ≡ step.Token t c → OnLine s c
-scanned-line s at st t c e g = go (scan s at) e
-  where
-    go : (r : Scan) → st ≡ step_of s r → OnLine s c
-    go (token t₁ n) e = let j : c ≡ cursor_at s n = cc in rw j refl
-    go (bad p) e = let z : ◌≡◌ {A = ℕ} 0 1 = cc in absurd (omega arith)
+pub scanned-line : (s : List ℕ) (sc : Scan) (t : Token) (c : Cursor) → Ok (t, c) ≡ step_of s sc → OnLine s c
+scanned-line s (token t₁ n) t c e = let z = same-pair t t₁ c (cursor_at s n) cc in rw z.1 refl
+scanned-line s (bad p) t c e = cc
 
-pub scanned-bad : (s : List ℕ) (st : Step) (sc : Scan) (p : Place) → st ≡ step_of s sc → st ≡ step.Bad p → sc ≡ bad p
-scanned-bad s st (token t n) p e g = let z : ◌≡◌ {A = ℕ} 0 1 = cc in absurd (omega arith)
-scanned-bad s st (bad p₁) p e g = let i : p ≡ p₁ = cc in rw i refl
+-- a reader that passes a bad token on
+pub bad-answers : {on : ℕ → Line} (e x f y : List ℕ) (q : Spot) (o : Out) (s : List ℕ) (sc : Scan) (r : Refused) → Err r ≡ step_of s sc
+    → ((p : Place) → sc ≡ bad p → o ≡ refused bad_token p) → Answers on e x f y q o (Err r)
+bad-answers e x f y q o s (token t n) r h k = cc
+bad-answers e x f y q o s (bad p) r h k = no-answers e x f y q o (Err r) bad_token p (k p refl) cc
 
-pub bad-is : (st : Step) (p : Place) (r : Answer) → st ≡ step.Bad p → r ≡ bad_of st → r ≡ answer.No bad_token p
-bad-is st p r g e = e ∙ ap bad_of g
-
-pub other-is : (st : Step) (t : Token) (c : Cursor) (r : Answer) → st ≡ step.Token t c → r ≡ bad_of st → r ≡ answer.No other_expected t.start
-other-is st t c r g e = e ∙ ap bad_of g
-
-pub over-is : (negative : Bool) (most v : ℕ) → number.Over ≡ integer_of negative most v → leb v most ≡ false
+pub over-is : (negative : Bool) (most v : ℕ) → ◌≡◌ {A = maybe.Option ℕ} maybe.None (integer_of negative most v) → leb v most ≡ false
 unfolding integer_of
 over-is negative most v e = go (leb v most) refl e
   where
-    go : (b : Bool) → leb v most ≡ b → number.Over ≡ (when b then (λ _. number.Worth (signed negative v)) otherwise λ _. number.Over) → leb v most ≡ false
-    go true h k = let z : ◌≡◌ {A = ℕ} 0 1 = cc in absurd (omega arith)
+    go : (b : Bool) → leb v most ≡ b → ◌≡◌ {A = maybe.Option ℕ} maybe.None (when b then (λ _. maybe.Some (signed negative v)) otherwise λ _. maybe.None) → leb v most ≡ false
+    go true h k = cc
     go false h k = h
 
-pub worth-is : (negative : Bool) (most v x : ℕ) → number.Worth x ≡ integer_of negative most v → (leb v most ≡ true) × (x ≡ signed negative v)
+pub worth-is : (negative : Bool) (most v x : ℕ) → maybe.Some x ≡ integer_of negative most v → (leb v most ≡ true) × (x ≡ signed negative v)
 unfolding integer_of
 worth-is negative most v x e = go (leb v most) refl e
   where
-    go : (b : Bool) → leb v most ≡ b → number.Worth x ≡ (when b then (λ _. number.Worth (signed negative v)) otherwise λ _. number.Over) → (leb v most ≡ true) × (x ≡ signed negative v)
+    go : (b : Bool) → leb v most ≡ b → maybe.Some x ≡ (when b then (λ _. maybe.Some (signed negative v)) otherwise λ _. maybe.None) → (leb v most ≡ true) × (x ≡ signed negative v)
     go true h k = (h, cc)
-    go false h k = let z : ◌≡◌ {A = ℕ} 0 1 = cc in absurd (omega arith)
+    go false h k = cc
 
-pub nothing_is : (o : Option ℕ) → found.Nothing ≡ found_of o → o ≡ none
-nothing_is none e = refl
-nothing_is (some i) e = let z : ◌≡◌ {A = ℕ} 0 1 = cc in absurd (omega arith)
-
-pub found-is : (o : Option ℕ) (i : ℕ) → found.At i ≡ found_of o → o ≡ some i
-found-is none i e = let z : ◌≡◌ {A = ℕ} 0 1 = cc in absurd (omega arith)
-found-is (some j) i e = let k : i ≡ j = cc in rw k refl
-
-pub undecoded-is : (o : Option (List ℕ)) → decoded.Bad ≡ decoded_of o → o ≡ none
+pub undecoded-is : (o : Option (List ℕ)) → ◌≡◌ {A = maybe.Option Decoded} maybe.None (decoded_of o) → o ≡ none
 undecoded-is none e = refl
-undecoded-is (some bs) e = let z : ◌≡◌ {A = ℕ} 0 1 = cc in absurd (omega arith)
+undecoded-is (some bs) e = cc
 
-pub decoded-is : (o : Option (List ℕ)) (n : ℕ) (u : Bool) → decoded.Bytes n u ≡ decoded_of o → (bs : List ℕ) × (o ≡ some bs) × (n ≡ length bs) × (u ≡ utf8 bs)
-decoded-is none n u e = let z : ◌≡◌ {A = ℕ} 0 1 = cc in absurd (omega arith)
-decoded-is (some bs) n u e = (bs, refl, cc, cc)
+pub decoded-is : (o : Option (List ℕ)) (d : Decoded) → maybe.Some d ≡ decoded_of o → (bs : List ℕ) × (o ≡ some bs) × (d.count ≡ length bs) × (d.utf8 ≡ utf8 bs)
+decoded-is none d e = cc
+decoded-is (some bs) d e =
+    let i : d ≡ record { count = length bs; utf8 = utf8 bs } = cc in
+    (bs, refl, ap (λ (x : Decoded). x.count) i, ap (λ (x : Decoded). x.utf8) i)
+
+eqb-swap : (x y : ℕ) → eqb x y ≡ eqb y x
+eqb-swap x y = go (eqb x y) refl
+  where
+    go : (b : Bool) → eqb x y ≡ b → eqb x y ≡ eqb y x
+    go true e = let z = eqb-true x y e in rw z refl
+    go false e = e ∙ sym (ne_eqb y x (λ z. eqb-false x y e (sym z)))
+
+-- `==` of two slices is `same`, from the other side
+eq-same : (xs ys : List ℕ) → pointwise nat_eq xs ys ≡ same ys xs
+unfolding same
+eq-same [] [] = refl
+eq-same [] (y ∷ ys) = refl
+eq-same (x ∷ xs) [] = refl
+eq-same (x ∷ xs) (y ∷ ys) = rw (eqb-swap x y, eq-same xs ys) refl
+
+pub tested-same : (r : Bool) (xs ys name word : List ℕ) → r ≡ pointwise nat_eq xs ys → xs ≡ name → ys ≡ word → r ≡ same word name
+tested-same r xs ys name word e h k = rw (← h, ← k) (e ∙ eq-same xs ys)
 
 -- a token that was met lies inside the text
 pub reached : (s : List ℕ) (at : ℕ) (t : Token) (n : ℕ) → at ≤ length s → scan s at ≡ token t n → Reached s t n
@@ -110,13 +115,10 @@ broken-by r k u v h e = h ∙ ap (λ (x : Bool). k && not x) e
 -- ---- integers
 
 module _ (s : List ℕ) (w : Want) (negative : Bool) (most : ℕ) (q : Spot) (t : Token) (n : ℕ) where
-  pub integer-other : (t.kind ≡ integer_token → ⊥) → integer_tok s w negative most q (token t n) ≡ refused other_expected t.start
-  integer-other h = simp (ne_eqb _ _ h)
-
-  pub integer-over : t.kind ≡ integer_token → number.Over ≡ integer_of negative most (integer_value (part s t.start.offset n)) → integer_tok s w negative most q (token t n) ≡ refused overflow t.start
+  pub integer-over : t.kind ≡ integer_token → ◌≡◌ {A = maybe.Option ℕ} maybe.None (integer_of negative most (integer_value (part s t.start.offset n))) → integer_tok s w negative most q (token t n) ≡ refused overflow t.start
   integer-over h e = simp (eq-eqb _ _ h, over-is negative most _ e)
 
-  pub integer-worth : t.kind ≡ integer_token → (v : ℕ) → number.Worth v ≡ integer_of negative most (integer_value (part s t.start.offset n)) → integer_tok s w negative most q (token t n) ≡ number_leaf w q n v
+  pub integer-worth : t.kind ≡ integer_token → (v : ℕ) → maybe.Some v ≡ integer_of negative most (integer_value (part s t.start.offset n)) → integer_tok s w negative most q (token t n) ≡ number_leaf w q n v
   integer-worth h v e = let z = worth-is negative most _ v e in simp (eq-eqb _ _ h, z.0, z.1)
 
 module _ (s : List ℕ) (w : Want) (width : ℕ) (q : Spot) where
@@ -218,11 +220,11 @@ module _ (s : List ℕ) (w : Want) (q : Spot) where
       string-fine i = simp (e, eq-eqb _ _ h, k, sym i)
 
 -- what a string stands for has room among the bytes of the text
-pub string-room : {l : Line} (s : List ℕ) (q : Spot) (t : Token) (n : ℕ) (bs : List ℕ) → Fair s q l → scan s q.at ≡ token t n → t.kind ≡ string_token
-    → decode (part s (t.start.offset + 1) (n - 1)) ≡ some bs → q.byte + length bs ≤ most_text
-string-room s q t n bs f e h k =
-    let z = reach s q.at t n f.inside e in
-    omega (arith, z.from, z.quotes h, z.within, f.bytes, f.short, decode-length _ bs k, part-le s (t.start.offset + 1) (n - 1))
+pub string-room : (s : List ℕ) (p : Position) (t : Token) (n : ℕ) (bs : List ℕ) → Fair s p → length s ≤ most_text → scan s p.spot.at ≡ token t n → t.kind ≡ string_token
+    → decode (part s (t.start.offset + 1) (n - 1)) ≡ some bs → p.spot.byte + length bs ≤ most_text
+string-room s p t n bs f short e h k =
+    let z = reach s p.spot.at t n f.inside e in
+    omega (arith, z.from, z.quotes h, z.within, f.bytes, short, decode-length _ bs k, part-le s (t.start.offset + 1) (n - 1))
 
 -- ---- scalars
 
@@ -274,19 +276,11 @@ module _ (image s : List ℕ) (w : Want) (q : Spot) where
   unfolding after_name
   colon-on t n e h = rw (e, eq-eqb _ _ h)
 
--- a fair spot moved to the end of a token
-pub moved-fair : {l m : Line} (s : List ℕ) (q : Spot) (t : Token) (n : ℕ) → Fair s q l → scan s q.at ≡ token t n → m ≡ line_at s n → Fair s (moved n q) m
-moved-fair s q t n f e g =
-    let z = reach s q.at t n f.inside e in
-    record { inside = z.within; nodes = omega (arith, z.from, z.start, f.nodes); bytes = omega (arith, z.from, z.start, f.bytes); short = f.short; line = g }
-
--- what the scanner presumes of it
-pub fair-located : {l : Line} (s : List ℕ) (q : Spot) → Fair s q l → Located s (record { at = q.at; line = l })
-fair-located s q f = record { inside = f.inside; short = f.short; line = f.line }
-
--- and of the cursor behind a token
-pub after-located : {l : Line} (s : List ℕ) (q : Spot) (t : Token) (c : Cursor) → Fair s q l → scan s q.at ≡ token t c.at → OnLine s c → Located s c
-after-located s q t c f e g = record { inside = (reach s q.at t c.at f.inside e).within; short = f.short; line = g }
+-- a fair position moved to the end of a token
+pub moved-fair : (s : List ℕ) (p : Position) (t : Token) (c : Cursor) → Fair s p → scan s p.spot.at ≡ token t c.at → OnLine s c → Fair s (record { spot = moved c.at p.spot; line = c.line })
+moved-fair s p t c f e g =
+    let z = reach s p.spot.at t c.at f.inside e in
+    record { inside = z.within; nodes = omega (arith, z.from, z.start, f.nodes); bytes = omega (arith, z.from, z.start, f.bytes); line = g }
 
 -- ---- what an entry lacks
 

@@ -1,35 +1,32 @@
 -- What the readers presume and what they answer.
-use Rattle.std.specs.Prelude.{◌≡◌, ℕ, ◌+◌, ◌*◌, ◌/◌, ◌≤◌, ◌<◌, Bool, true, List, ltb, eqb, length}
+use Rattle.std.specs.Prelude.{◌≡◌, ℕ, ◌+◌, ◌*◌, ◌/◌, ◌≤◌, ◌<◌, true, List, ltb, eqb, length, Option, Some, None, Result, Ok, Err}
 use Rattle.std.proofs.lemmas.List.Edits.{sets}
 use Rattle.definitions.specs.declared.Spot.{Spot}
 use Rattle.definitions.specs.declared.Token.{Token}
+use Rattle.definitions.specs.declared.Refused.{Refused}
 use Rattle.definitions.specs.declared.Want.{Want}
 use Rattle.definitions.specs.Basics.{when◌then◌otherwise◌}
-use Rattle.definitions.specs.Refusals.{bad_token, other_expected, most_text}
+use Rattle.definitions.specs.Refusals.{most_text}
+use Rattle.definitions.specs.Refused.{refused_as}
 use Rattle.definitions.specs.Image.{message_count, field_count, enum_count, field, is_map}
 use Rattle.definitions.specs.Scope.{i32, u32, enum, body, map_entry, within, has_field}
-use Rattle.definitions.specs.Classes.{classes}
-use Rattle.definitions.specs.Strings.{escapes}
-use Rattle.definitions.specs.Reading.{opens, closer_of, noted}
-use Rattle.definitions.specs.Loop.{Out, done, refused, Stand}
+use Rattle.definitions.specs.Reading.{opens, closer_of}
+use Rattle.definitions.specs.Loop.{Out, done, refused}
 use Rattle.lexer.specs.declared.tokens.Line.{Line}
 use Rattle.lexer.specs.declared.tokens.Cursor.{Cursor}
-use Rattle.lexer.specs.declared.tokens.Step.{Step}
-use Rattle.lexer.specs.declared.tokens.Step.TheVariants as step
 use Rattle.lexer.specs.Steps.{line_at}
-use Rattle.leaves.specs.declared.Answer.{Answer}
-use Rattle.leaves.specs.declared.Answer.TheVariants as answer
+use Rattle.leaves.specs.declared.Position.{Position}
 
 -- ---- answers, with document 01's numbers
 
+-- a reader's answer
+abbrev pub Answer : Type 0
+Answer = Result Position Refused
+
 -- the spot after, with the line that it stands on, as offsets have lines
 abbrev pub answer_of : (ℕ → Line) → Out → Answer
-answer_of on (done q w b) = answer.Done q (on q.at)
-answer_of on (refused why at) = answer.No why at
-
-abbrev pub bad_of : Step → Answer
-bad_of (step.Bad p) = answer.No bad_token p
-bad_of (step.Token t c) = answer.No other_expected t.start
+answer_of on (done q w b) = Ok (record { spot = q; line = on q.at })
+answer_of on (refused why at) = Err (refused_as why at)
 
 -- the bits of a signed type, and of an unsigned one
 abbrev pub signed_width : ℕ → ℕ
@@ -44,25 +41,16 @@ put_at e k w = when ltb k (length e / 5) then (λ _. sets e (5 * k) w) otherwise
 
 -- ---- what is presumed
 
--- the lent table is the table of classes
-abbrev pub Ready : List ℕ → Type 0
-Ready table = table ≡ classes
-
--- and the other is the table of escape letters
-abbrev pub Lent : List ℕ → List ℕ → Type 0
-Lent table escape = Ready table × (escape ≡ escapes)
-
 -- a cursor is on the line that it stands on
 abbrev pub OnLine : List ℕ → Cursor → Type 0
 OnLine s c = c.line ≡ line_at s c.at
 
--- a spot in a text of lawful length and its line, with no more nodes and bytes than places passed
-pub record Fair (s : List ℕ) (q : Spot) (l : Line) : Type 0 where
-  pub inside : q.at ≤ length s
-  pub nodes : q.node ≤ q.at + 1
-  pub bytes : q.byte ≤ q.at
-  pub short : length s ≤ most_text
-  pub line : l ≡ line_at s q.at
+-- a spot in a text and its line, with no more nodes and bytes than places passed
+pub record Fair (s : List ℕ) (p : Position) : Type 0 where
+  pub inside : p.spot.at ≤ length s
+  pub nodes : p.spot.node ≤ p.spot.at + 1
+  pub bytes : p.spot.byte ≤ p.spot.at
+  pub line : p.line ≡ line_at s p.spot.at
 
 -- a node's numbers fit its words
 pub record Holds (w : Want) (q : Spot) : Type 0 where
@@ -82,9 +70,9 @@ pub record Fits (image : List ℕ) (w : Want) : Type 0 where
 abbrev pub Inside : List ℕ → Want → ℕ → Type 0
 Inside image w i = has_field image (within w) i ≡ true
 
--- the closer that matches an opener, 0 for what is no opener
-abbrev pub closer_for : ℕ → ℕ → ℕ
-closer_for kind t = when opens kind t then (λ _. closer_of t) otherwise λ _. 0
+-- the closer that matches an opener; no other token has one
+abbrev pub closer_for : ℕ → ℕ → Option ℕ
+closer_for kind t = when opens kind t then (λ _. Some (closer_of t)) otherwise λ _. None
 
 -- a token lies inside the text
 pub record Reached (s : List ℕ) (t : Token) (n : ℕ) : Type 0 where
@@ -109,13 +97,3 @@ AnswersHere on e x q o r = (f : List ℕ) → Answers on e x f f q o r
 -- the same, however offsets have lines, if the cursor at the end is on its own
 abbrev pub AnswersUpTo : Cursor → (e x : List ℕ) → Spot → Out → Answer → Type 0
 AnswersUpTo c e x q o r = (on : ℕ → Line) → c.line ≡ on c.at → AnswersHere on e x q o r
-
-abbrev pub standing : Spot → Bool → Bool → Stand
-standing q key value = record { spot = q; key = key; value = value }
-
--- an entry's key and value, noted once the field i is read too; wherever reading stands
-abbrev pub KeyNoted : Want → ℕ → Bool → Bool → Type 0
-KeyNoted w i key r = (q p : Spot) (value : Bool) → r ≡ (noted (within w) i (standing q key value) p).key
-
-abbrev pub ValueNoted : Want → ℕ → Bool → Bool → Type 0
-ValueNoted w i value r = (q p : Spot) (key : Bool) → r ≡ (noted (within w) i (standing q key value) p).value

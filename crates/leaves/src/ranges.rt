@@ -12,9 +12,9 @@ pub fn most_unsigned(kind: u8) -> u64
     ensures { result ≡ most_unsigned (unsigned_width kind) }
 {
     if kind == kinds::U32 {
-        4294967295
+        u64::from(u32::MAX)
     } else {
-        18446744073709551615
+        u64::MAX
     }
 }
 
@@ -22,37 +22,24 @@ pub fn most_unsigned(kind: u8) -> u64
 pub fn most_signed(kind: u8, negative: bool) -> u64
     ensures { result ≡ most_signed (signed_width kind) negative }
 {
-    if kind == kinds::I32 {
-        if negative { 2147483648 } else { 2147483647 }
+    let most = if kind == kinds::I32 {
+        i32::MAX as u64
     } else {
-        if negative {
-            9223372036854775808
-        } else {
-            9223372036854775807
-        }
-    }
+        i64::MAX as u64
+    };
+    most + u64::from(negative)
 }
 
 // 32 bits sign-extended to 64.
 pub fn widened(v: u32) -> u64
     ensures { result ≡ widen v }
 {
-    if v < 2147483648 {
-        v as u64
-    } else {
-        v as u64 + 18446744069414584320
-    }
+    i64::from(v.cast_signed()).cast_unsigned()
 }
 
 // A string that is not UTF-8; bytes may be anything.
 pub fn is_broken(kind: u8, utf8: bool) -> bool
     ensures { result ≡ (eqb kind string && not utf8) }
 {
-    if kind != kinds::STRING {
-        return false;
-    }
-    if utf8 {
-        return false;
-    }
-    true
+    kind == kinds::STRING && !utf8
 }

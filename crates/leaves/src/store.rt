@@ -1,11 +1,11 @@
 // Nodes' words, stored where the table has room for them.
-ghost use Rattle.std.specs.Prelude.{◌≡◌, ◌≤◌, ◌<◌, ◌+◌};
+ghost use Rattle.std.specs.Prelude.{◌≡◌, ◌≤◌, ◌<◌, ◌+◌, Ok};
 ghost use Rattle.definitions.specs.Refusals.{most_text};
 ghost use Rattle.definitions.specs.Nodes.{words};
 ghost use Rattle.definitions.specs.Reading.{number_leaf};
 ghost use Rattle.leaves.specs.Answers.{put_at, Holds, AnswersUpTo};
 
-use crate::Answer;
+use crate::Position;
 use definitions::limits::NODE_WORDS;
 use definitions::{Node, Spot, Want};
 use lexer::Cursor;
@@ -25,44 +25,44 @@ pub fn put(nodes: &mut [u32], k: usize, n: Node)
 }
 
 // A node with none below it: a number, up to a cursor.
-pub fn put_number(w: Want, q: Spot, to: Cursor, v: u64, nodes: &mut [u32]) -> Answer
+// Kept: `as`, here and below, since these numbers fit by what is presumed; a `try_from` would be a refusal that cannot come.
+pub fn put_number(w: Want, q: Spot, to: Cursor, v: u64, nodes: &mut [u32]) -> Position
     requires { Holds w q }
-    ensures { AnswersUpTo to nodes.old nodes.new q (number_leaf w q to.at v) result }
+    ensures { AnswersUpTo to nodes.old nodes.new q (number_leaf w q to.at v) (Ok result) }
 {
-    let k = q.node;
-    let line = to.line;
+    let end = q.node + 1;
     put(
         nodes,
-        k,
+        q.node,
         Node {
-            kind: w.kind as u32,
+            kind: u32::from(w.kind),
             field: w.field as u32,
-            high: (v / 4294967296) as u32,
-            low: (v % 4294967296) as u32,
-            end: (k + 1) as u32,
+            high: (v >> 32) as u32,
+            low: (v & u64::from(u32::MAX)) as u32,
+            end: end as u32,
         },
     );
-    Answer::Done(
-        Spot {
+    Position {
+        spot: Spot {
             at: to.at,
-            node: k + 1,
-            byte: q.byte,
+            node: end,
+            ..q
         },
-        line,
-    )
+        line: to.line,
+    }
 }
 
 // A node with others below it, up to the node `end`: a message or an entry.
-pub fn put_body(nodes: &mut [u32], k: usize, kind: u8, field: usize, end: usize)
-    requires { (field < 4096) × (end ≤ most_text + 3) }
-    ensures { nodes.new ≡ put_at nodes.old k (words (record { kind = kind; field = field; high = 0; low = 0; end = end })) }
+pub fn put_body(nodes: &mut [u32], k: usize, w: Want, end: usize)
+    requires { (w.field < 4096) × (end ≤ most_text + 3) }
+    ensures { nodes.new ≡ put_at nodes.old k (words (record { kind = w.kind; field = w.field; high = 0; low = 0; end = end })) }
 {
     put(
         nodes,
         k,
         Node {
-            kind: kind as u32,
-            field: field as u32,
+            kind: u32::from(w.kind),
+            field: w.field as u32,
             high: 0,
             low: 0,
             end: end as u32,

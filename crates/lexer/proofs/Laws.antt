@@ -11,49 +11,35 @@ use mathlib.Core.Option.{Option, none, some}
 use lib.Dec.{ltb, leb, eqb}
 use lib.ListN.{length, get_or, drop, drop_of_length-le}
 use lib.Seq.{drop-cons, drop-drop}
-use borrow.Author.Tests.{eq-eqb, ne_eqb, eqb-true, eqb-false, lt-ltb, ltb-true, leb-true}
+use borrow.Author.Tests.{eq-eqb, ne_eqb, eqb-true, eqb-false, lt-ltb, leb-true}
 use Rattle.definitions.specs.Basics.{when◌then◌otherwise◌, between}
 use Rattle.definitions.specs.declared.Place.{Place}
-use Rattle.definitions.specs.Places.{newline, place_of}
+use Rattle.definitions.specs.Places.{newline}
 use Rattle.definitions.specs.Image.{digit}
 use Rattle.definitions.specs.Classes.{classes, class, goes_on, quote_class, newline_class, space_class, comment_class, symbol_class, digit_class, letter_class}
 use Rattle.definitions.specs.Integers.{front, octal_digit, hex_digit, hex_ahead, integer_length, runs_on}
-use Rattle.definitions.specs.Tokens.{bad, colon, end_of_text, gap, inside, integer_scan, integer_token, name_token, one_more, scan, scan_from, skip, string_scan, string_token, token_of}
+use Rattle.definitions.specs.Tokens.{bad, end_of_text, gap, inside, integer_scan, integer_token, name_token, one_more, scan_from, skip, string_scan, string_token, token_of}
 use Rattle.laws.proofs.Lists.{and_parts, true-false}
-use Rattle.laws.proofs.ClassTable.{class-most}
-use Rattle.lexer.specs.declared.tokens.Closing.{Closing}
-use Rattle.lexer.specs.declared.tokens.Closing.TheVariants as closing
-use Rattle.lexer.specs.Steps.{comment, breaks, closing_of}
+use Rattle.lexer.specs.declared.tokens.Cursor.{Cursor}
+use Rattle.std.specs.Prelude.{Some, None}
+use Rattle.std.specs.Prelude as answer
+use Rattle.lexer.specs.Steps.{Met, place_at, in_line, breaks, closing_of}
 
--- ---- a comment's rest, from a place on
-
-pub comment-on : (s : List ℕ) (i : ℕ) → i < length s → (get_or s i 0 ≡ newline → ⊥) → i + 1 + comment (drop (i + 1) s) ≡ i + comment (drop i s)
-unfolding comment
-comment-on s i h e = rw (drop-cons s i 0) (simp (ne_eqb _ _ e, add-one) (omega arith))
-
-pub comment-newline : (s : List ℕ) (i : ℕ) → i < length s → get_or s i 0 ≡ newline → i ≡ i + comment (drop i s)
-unfolding comment
-comment-newline s i h e = rw (drop-cons s i 0) (simp (eq-eqb _ _ e) (omega arith))
-
-pub comment-end : (s : List ℕ) (i : ℕ) → length s ≤ i → i ≡ i + comment (drop i s)
-unfolding comment
-comment-end s i h = rw (drop_of_length-le s h) (omega arith)
+-- ---- what separates, from a place on
 
 -- a comment is its rest of the line and the separators after it, the newline first
-gap-comment : (l : List ℕ) → gap true l ≡ comment l + gap false (drop (comment l) l)
-unfolding gap comment class classes
+gap-comment : (l : List ℕ) → gap true l ≡ front in_line l + gap false (drop (front in_line l) l)
+unfolding gap front class classes
 gap-comment [] = refl
 gap-comment (b ∷ bs) = go (eqb b newline) refl (gap-comment bs)
   where
-    go : (t : Bool) → eqb b newline ≡ t → gap true bs ≡ comment bs + gap false (drop (comment bs) bs)
-        → gap true (b ∷ bs) ≡ comment (b ∷ bs) + gap false (drop (comment (b ∷ bs)) (b ∷ bs))
+    go : (t : Bool) → eqb b newline ≡ t → gap true bs ≡ front in_line bs + gap false (drop (front in_line bs) bs)
+        → gap true (b ∷ bs) ≡ front in_line (b ∷ bs) + gap false (drop (front in_line (b ∷ bs)) (b ∷ bs))
     go true e h = rw (eqb-true b newline e) (omega arith)
-    go false e h = rw (e, gap, comment) (omega arith)
+    go false e h = rw (e, gap, front) (omega arith)
 
-gap-rest : (s : List ℕ) (i : ℕ) → gap true (drop i s) ≡ comment (drop i s) + gap false (drop (i + comment (drop i s)) s)
-gap-rest s i = gap-comment (drop i s) ∙ ap (λ (l : List ℕ). comment (drop i s) + gap false l) (drop-drop (comment (drop i s)) i s)
-
--- ---- what separates, from a place on
+gap-rest : (s : List ℕ) (i : ℕ) → gap true (drop i s) ≡ front in_line (drop i s) + gap false (drop (i + front in_line (drop i s)) s)
+gap-rest s i = gap-comment (drop i s) ∙ ap (λ (l : List ℕ). front in_line (drop i s) + gap false l) (drop-drop (front in_line (drop i s)) i s)
 
 pub skip-end : (s : List ℕ) (i : ℕ) → length s ≤ i → i ≡ skip s i
 unfolding skip gap
@@ -71,7 +57,7 @@ module _ (s : List ℕ) (i : ℕ) (h : i < length s) {c : ℕ} (e : c ≡ class 
       refuted : between newline_class comment_class c ≡ true → ⊥
       refuted t = true-false (between newline_class comment_class c) t l
 
-  pub skip-comment : c ≡ comment_class → skip s (i + 1 + comment (drop (i + 1) s)) ≡ skip s i
+  pub skip-comment : c ≡ comment_class → skip s (i + 1 + front in_line (drop (i + 1) s)) ≡ skip s i
   unfolding skip gap
   skip-comment k = rw (drop-cons s i 0) (simp (← e, k, add-one) (omega (arith, gap-rest s (suc i))))
 
@@ -181,19 +167,19 @@ module _ (s : List ℕ) (i : Place) (b : ℕ) {e : ℕ} (p : e ≡ i.offset + in
 
 -- ---- strings: where one is closed whose bytes go on at a place, after a backslash or not
 
-abbrev pub close_at : ℕ → Bool → List ℕ → ℕ → Closing
+abbrev pub close_at : ℕ → Bool → List ℕ → ℕ → answer.Option ℕ
 close_at quote slashed s i = closing_of i (inside quote slashed (drop i s))
 
 closing-one_more : (i : ℕ) (o : Option ℕ) → closing_of (i + 1) o ≡ closing_of i (one_more o)
 closing-one_more i none = refl
-closing-one_more i (some n) = ap closing.Before (omega arith)
+closing-one_more i (some n) = ap Some (omega arith)
 
-pub close-end : (quote : ℕ) (slashed : Bool) (s : List ℕ) (i : ℕ) → length s ≤ i → closing.Missing ≡ close_at quote slashed s i
+pub close-end : (quote : ℕ) (slashed : Bool) (s : List ℕ) (i : ℕ) → length s ≤ i → None ≡ close_at quote slashed s i
 unfolding inside
 close-end quote slashed s i h = rw (drop_of_length-le s h)
 
 module _ (quote : ℕ) (slashed : Bool) (s : List ℕ) (i : ℕ) (h : i < length s) where
-  pub close-break : breaks (get_or s i 0) ≡ true → closing.Missing ≡ close_at quote slashed s i
+  pub close-break : breaks (get_or s i 0) ≡ true → None ≡ close_at quote slashed s i
   unfolding inside
   close-break r = rw (drop-cons s i 0) (simp r)
 
@@ -212,8 +198,8 @@ module _ (quote : ℕ) (slashed : Bool) (s : List ℕ) (i : ℕ) (h : i < length
   inside-quote r q = rw (drop-cons s i 0) (simp (r, q))
 
   pub close-quote : breaks (get_or s i 0) ≡ false → (not slashed && eqb (get_or s i 0) quote) ≡ true
-      → closing.Before (i + 1) ≡ close_at quote slashed s i
-  close-quote r q = ap closing.Before (omega arith) ∙ ap (closing_of i) (inside-quote r q)
+      → Some (i + 1) ≡ close_at quote slashed s i
+  close-quote r q = ap Some (omega arith) ∙ ap (closing_of i) (inside-quote r q)
 
 -- a byte of another class is another byte
 other : (b k : ℕ) → (class b ≡ class k → ⊥) → eqb b k ≡ false
@@ -233,7 +219,7 @@ plain-alone b l = other b 92 (λ f. omega arith)
 
 -- the bytes of a string, by class: its quote is of the class of quotes, and from the class of spaces on a byte is plain
 module _ (quote : ℕ) (q : class quote ≡ quote_class) (s : List ℕ) (i : ℕ) (h : i < length s) where
-  pub string-closed : get_or s i 0 ≡ quote → closing.Before (i + 1) ≡ close_at quote false s i
+  pub string-closed : get_or s i 0 ≡ quote → Some (i + 1) ≡ close_at quote false s i
   string-closed e = close-quote quote false s i h (quote-whole _ (ap class e ∙ q)) (eq-eqb _ _ e)
 
   pub string-plain : space_class ≤ class (get_or s i 0) → close_at quote false s (i + 1) ≡ close_at quote false s i
@@ -250,19 +236,19 @@ module _ (quote : ℕ) (q : class quote ≡ quote_class) (s : List ℕ) (i : ℕ
   pub string-taken : breaks (get_or s i 0) ≡ false → close_at quote false s (i + 1) ≡ close_at quote true s i
   string-taken r = close-on quote true s i h r refl
 
-scan-bad : (i : Place) (o : Option ℕ) → closing_of (i.offset + 1) o ≡ closing.Missing → bad i ≡ string_scan i o
+scan-bad : (i : Place) (o : Option ℕ) → closing_of (i.offset + 1) o ≡ None → bad i ≡ string_scan i o
 scan-bad i none e = refl
 scan-bad i (some n) e = let z : ◌≡◌ {A = ℕ} 0 1 = cc in absurd (omega arith)
 
-scan_good : (i : Place) (n : ℕ) (o : Option ℕ) → closing_of (i.offset + 1) o ≡ closing.Before n → token_of string_token i n ≡ string_scan i o
+scan_good : (i : Place) (n : ℕ) (o : Option ℕ) → closing_of (i.offset + 1) o ≡ Some n → token_of string_token i n ≡ string_scan i o
 scan_good i n none e = let z : ◌≡◌ {A = ℕ} 0 1 = cc in absurd (omega arith)
 scan_good i n (some m) e = let z : i.offset + 1 + m + 1 ≡ n = cc in ap (token_of string_token i) (omega arith)
 
 module _ (quote : ℕ) (s : List ℕ) (i : Place) where
-  pub string-bad : close_at quote false s (i.offset + 1) ≡ closing.Missing → bad i ≡ string_scan i (inside quote false (drop (i.offset + 1) s))
+  pub string-bad : close_at quote false s (i.offset + 1) ≡ None → bad i ≡ string_scan i (inside quote false (drop (i.offset + 1) s))
   string-bad e = scan-bad i (inside quote false (drop (i.offset + 1) s)) e
 
-  pub string-good : (n : ℕ) → close_at quote false s (i.offset + 1) ≡ closing.Before n
+  pub string-good : (n : ℕ) → close_at quote false s (i.offset + 1) ≡ Some n
       → token_of string_token i n ≡ string_scan i (inside quote false (drop (i.offset + 1) s))
   string-good n e = scan_good i n (inside quote false (drop (i.offset + 1) s)) e
 
@@ -272,52 +258,27 @@ pub from_end : (s : List ℕ) (p : Place) → length s ≤ p.offset → token_of
 unfolding scan_from
 from_end s p h = rw (drop_of_length-le s h)
 
-module _ (s : List ℕ) (p : Place) (h : p.offset < length s) {c : ℕ} (e : c ≡ class (get_or s p.offset 0)) where
-  pub from-letter : digit_class < c → token_of name_token p (p.offset + 1 + front goes_on (drop (p.offset + 1) s)) ≡ scan_from p (drop p.offset s)
+-- by the class k of the byte that is met
+module _ (s : List ℕ) (c : Cursor) (b : ℕ) {k : ℕ} (m : Met s c b) (e : k ≡ class b) where
+  here : drop c.at s ≡ b ∷ drop (c.at + 1) s
+  here = rw add-one (drop-cons s c.at 0 m.inside ∙ ap (λ (b : ℕ). b ∷ drop (suc c.at) s) (sym m.byte))
+
+  pub from-letter : k ≡ letter_class → token_of name_token (place_at c) (c.at + 1 + front goes_on (drop (c.at + 1) s)) ≡ scan_from (place_at c) (drop c.at s)
   unfolding scan_from
-  from-letter k =
-      let l : c ≡ letter_class = omega (arith, e, class-most (get_or s p.offset 0)) in
-      rw (drop-cons s p.offset 0) (simp (← e, l, add-one))
+  from-letter l = rw here (simp (← e, l))
 
-  pub from-digit : c ≡ digit_class → integer_scan p (get_or s p.offset 0) (drop (p.offset + 1) s) ≡ scan_from p (drop p.offset s)
+  pub from-digit : k ≡ digit_class → integer_scan (place_at c) b (drop (c.at + 1) s) ≡ scan_from (place_at c) (drop c.at s)
   unfolding scan_from
-  from-digit k = rw (drop-cons s p.offset 0) (simp (← e, k, add-one))
+  from-digit l = rw here (simp (← e, l))
 
-  pub from-quote : c ≡ quote_class → string_scan p (inside (get_or s p.offset 0) false (drop (p.offset + 1) s)) ≡ scan_from p (drop p.offset s)
+  pub from-quote : k ≡ quote_class → string_scan (place_at c) (inside b false (drop (c.at + 1) s)) ≡ scan_from (place_at c) (drop c.at s)
   unfolding scan_from
-  from-quote k = rw (drop-cons s p.offset 0) (simp (← e, k, add-one))
+  from-quote l = rw here (simp (← e, l))
 
-  pub from-symbol : c ≡ symbol_class → token_of (get_or s p.offset 0) p (p.offset + 1) ≡ scan_from p (drop p.offset s)
+  pub from-symbol : k ≡ symbol_class → token_of b (place_at c) (c.at + 1) ≡ scan_from (place_at c) (drop c.at s)
   unfolding scan_from
-  from-symbol k = rw (drop-cons s p.offset 0) (simp (← e, k, add-one))
+  from-symbol l = rw here (simp (← e, l))
 
-  pub from-none : c ≤ symbol_class → (c ≡ quote_class → ⊥) → (c ≡ symbol_class → ⊥) → bad p ≡ scan_from p (drop p.offset s)
+  pub from-none : (k ≡ letter_class → ⊥) → (k ≡ digit_class → ⊥) → (k ≡ quote_class → ⊥) → (k ≡ symbol_class → ⊥) → bad (place_at c) ≡ scan_from (place_at c) (drop c.at s)
   unfolding scan_from
-  from-none f k l =
-      let g : c ≡ letter_class → ⊥ = λ z. omega arith in
-      let d : c ≡ digit_class → ⊥ = λ z. omega arith in
-      rw (drop-cons s p.offset 0) (simp (← e, ne_eqb _ _ g, ne_eqb _ _ d, ne_eqb _ _ k, ne_eqb _ _ l))
-
-pub scan-at : (s : List ℕ) (at i : ℕ) → i ≡ skip s at → scan_from (place_of s i) (drop i s) ≡ scan s at
-unfolding scan
-scan-at s at i e = rw e
-
--- ---- a colon taken without a scan
-
--- a colon that stands right here, by the test for it
-pub colon-there : (s : List ℕ) (at : ℕ) (r : Bool) → r ≡ (ltb at (length s) && eqb (get_or s at 0) colon) → r ≡ true → (at < length s) × (get_or s at 0 ≡ colon)
-colon-there s at r e h =
-    let p = and_parts (ltb at (length s)) (eqb (get_or s at 0) colon) (sym e ∙ h) in
-    (ltb-true at (length s) p.0, eqb-true (get_or s at 0) colon p.1)
-
-symbol-here : (s r : List ℕ) (at c : ℕ) → drop at s ≡ c ∷ r → class c ≡ symbol_class → scan s at ≡ token_of c (place_of s at) (at + 1)
-unfolding scan skip gap scan_from
-symbol-here s r at c d k =
-    let g : gap false (drop at s) ≡ 0 = rw (d, k) refl in
-    let z : at + 0 ≡ at = omega arith in
-    rw (g, z, d, k) refl
-
--- is the token that a scan finds
-pub colon-here : (s : List ℕ) (at : ℕ) → at < length s → get_or s at 0 ≡ colon → scan s at ≡ token_of colon (place_of s at) (at + 1)
-unfolding class classes
-colon-here s at h e = symbol-here s (drop (suc at) s) at colon (drop-cons s at 0 h ∙ ap (λ (b : ℕ). b ∷ drop (suc at) s) e) refl
+  from-none l d q y = rw here (simp (← e, ne_eqb _ _ l, ne_eqb _ _ d, ne_eqb _ _ q, ne_eqb _ _ y))

@@ -22,9 +22,10 @@ use Rattle.definitions.specs.Tokens.{Scan, inside, one_more, token_of, integer_s
 use Rattle.laws.proofs.Lists.{true-false, and_parts, front-le}
 use Rattle.laws.proofs.ClassTable.{newline-class}
 use Rattle.laws.proofs.Reach.{by-test, inside-lt, integer_length-le}
+use Rattle.lexer.proofs.Laws.{skip-stays, from-symbol}
 use Rattle.lexer.specs.declared.tokens.Line.{Line}
 use Rattle.lexer.specs.declared.tokens.Cursor.{Cursor}
-use Rattle.lexer.specs.Steps.{line_at, place_at, on_line, step_of, comment}
+use Rattle.lexer.specs.Steps.{line_at, place_at, Located, Met, Placed, on_line, step_of, in_line}
 
 -- ---- newlines among bytes
 
@@ -131,24 +132,6 @@ place_is s c e =
     let k : c.at - (c.at + 1 - (1 + behind 0 (take c.at s))) + 1 ≡ 1 + behind 0 (take c.at s) = omega arith in
     rw (e, k) refl
 
--- a comment runs up to its newline
-calm-comment : (bs : List ℕ) → newlines (take (comment bs) bs) ≡ 0
-unfolding newlines comment
-calm-comment [] = refl
-calm-comment (b ∷ bs) = go (eqb b newline) refl (calm-comment bs)
-  where
-    go : (t : Bool) → eqb b newline ≡ t → newlines (take (comment bs) bs) ≡ 0 → newlines (take (comment (b ∷ bs)) (b ∷ bs)) ≡ 0
-    go true e h = rw (e, comment) refl
-    go false e h = rw (e, comment) (rw (e, newlines) h)
-
-pub comment-le : (bs : List ℕ) → comment bs ≤ length bs
-unfolding comment
-comment-le [] = omega arith
-comment-le (b ∷ bs) = by-test (λ (n : ℕ). n ≤ suc (length bs)) (eqb b newline) _ _ (λ _. omega arith) (λ _. omega (arith, comment-le bs))
-
-pub line-comment : (s : List ℕ) (i : ℕ) → i ≤ length s → line_at s (i + comment (drop i s)) ≡ line_at s i
-line-comment s i h = line-steady s i (comment (drop i s)) (omega (arith, comment-le (drop i s), length-drop i s)) (calm-comment (drop i s))
-
 -- ---- no token holds a newline
 
 calm-cons : (b : ℕ) (bs : List ℕ) → (b ≡ newline → ⊥) → newlines bs ≡ 0 → newlines (b ∷ bs) ≡ 0
@@ -163,6 +146,10 @@ calm-front p h (b ∷ bs) = go (p b) refl (calm-front p h bs)
     go : (t : Bool) → p b ≡ t → newlines (take (front p bs) bs) ≡ 0 → newlines (take (front p (b ∷ bs)) (b ∷ bs)) ≡ 0
     go true e k = rw (e, front) (calm-cons b (take (front p bs) bs) (λ z. true-false (p b) e (ap p z ∙ h)) k)
     go false e k = rw (e, front) refl
+
+-- a comment runs up to its newline
+pub line-comment : (s : List ℕ) (i : ℕ) → i ≤ length s → line_at s (i + front in_line (drop i s)) ≡ line_at s i
+line-comment s i h = line-steady s i (front in_line (drop i s)) (omega (arith, front-le in_line (drop i s), length-drop i s)) (calm-front in_line refl (drop i s))
 
 -- a byte of the class of newlines is no other
 pub other-class : (b c : ℕ) → class b ≡ c → (c ≡ class newline → ⊥) → b ≡ newline → ⊥
@@ -279,21 +266,46 @@ newline-byte b e = eqb-true b newline (sym (newline-class b) ∙ eq-eqb (class b
 pub other_byte : (b : ℕ) {c : ℕ} → c ≡ class b → (c ≡ newline_class → ⊥) → b ≡ newline → ⊥
 other_byte b e f z = f (e ∙ eqb-true (class b) newline_class (newline-class b ∙ eq-eqb b newline z))
 
+-- ---- a cursor on its line
+
+-- its numbers are small
+pub placed : {s : List ℕ} {c : Cursor} → Located s c → Placed c
+placed {s = s} {c = c} l = (omega (arith, l.inside, l.short), rw l.line (line_small s c.at).1)
+
 -- a scan from the place behind what separates, as the cursor answers it
-pub scanned-on : (s : List ℕ) (at : ℕ) (c : Cursor) → c.at ≡ skip s at → c.line ≡ line_at s c.at
-    → on_line c.line (scan_from (place_at c) (drop c.at s)) ≡ step_of s (scan s at)
+pub scanned-on : {s : List ℕ} {c : Cursor} (at : ℕ) → Located s c → c.at ≡ skip s at → on_line c.line (scan_from (place_at c) (drop c.at s)) ≡ step_of s (scan s at)
 unfolding scan
-scanned-on s at c k i = rw (place_is s c i, i, k) (steady s (place_of s (skip s at)) (drop (skip s at) s) refl)
+scanned-on {s = s} {c = c} at l k = rw (place_is s c l.line, l.line, k) (steady s (place_of s (skip s at)) (drop (skip s at) s) refl)
 
--- what the place of a cursor presumes
-pub placed-small : (s : List ℕ) (c : Cursor) → c.at ≤ length s → length s ≤ most_text → c.line ≡ line_at s c.at
-    → (c.at ≤ most_text) × (c.line.began ≤ c.at)
-placed-small s c h k e = (omega arith, rw e (line_small s c.at).1)
+-- at a byte
+module _ {s : List ℕ} {c : Cursor} (l : Located s c) (h : c.at < length s) where
+  pub met : Met s c (get_or s c.at 0)
+  met = record { inside = h; byte = refl; placed = placed l }
 
--- a colon holds no newline
-pub colon-on : (s : List ℕ) (c : Cursor) (p : Place) → c.line ≡ line_at s c.at → p ≡ place_at c → c.at < length s → get_or s c.at 0 ≡ colon
-    → on_line c.line (token_of colon p (c.at + 1)) ≡ step_of s (token_of colon (place_of s c.at) (c.at + 1))
-colon-on s c p e f h k =
-    let g : p ≡ place_of s c.at = f ∙ place_is s c e in
-    let l : c.line ≡ line_at s (c.at + 1) = e ∙ sym (line_on s c.at h (λ z. let y : colon ≡ newline = sym k ∙ z in omega arith)) in
-    rw (g, l) refl
+  -- one byte on
+  pub located-on : (get_or s c.at 0 ≡ newline → ⊥) → Located s (record { at = c.at + 1; line = c.line })
+  located-on f = record { inside = omega arith; short = l.short; line = l.line ∙ sym (line_on s c.at h f) }
+
+  pub located-next : get_or s c.at 0 ≡ newline → Located s (record { at = c.at + 1; line = record { number = c.line.number + 1; began = c.at + 1 } })
+  located-next e = record { inside = omega arith; short = l.short; line = rw l.line (sym (line-next s c.at h e)) }
+
+  -- behind a comment that begins with it
+  pub located-comment : (get_or s c.at 0 ≡ newline → ⊥) → Located s (record { at = c.at + 1 + front in_line (drop (c.at + 1) s); line = c.line })
+  located-comment f =
+      record {
+        inside = omega (arith, front-le in_line (drop (c.at + 1) s), length-drop (c.at + 1) s);
+        short = l.short;
+        line = (located-on f).line ∙ sym (line-comment s (c.at + 1) (omega arith));
+      }
+
+  -- the next line has a number
+  pub numbered : c.line.number ≤ most_text
+  numbered = omega (arith, l.short, (line_small s c.at).0, ap (λ (l : Line). l.number) l.line)
+
+  -- a colon right here is the token that a scan finds
+  pub colon-on : get_or s c.at 0 ≡ colon → on_line c.line (token_of colon (place_at c) (c.at + 1)) ≡ step_of s (scan s c.at)
+  unfolding class classes
+  colon-on e =
+      let k : symbol_class ≡ class (get_or s c.at 0) = sym (ap class e) in
+      ap (on_line c.line) (from-symbol s c colon (record { inside = h; byte = sym e; placed = placed l }) refl refl)
+      ∙ scanned-on c.at l (skip-stays s c.at h k refl)

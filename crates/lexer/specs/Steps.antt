@@ -1,18 +1,16 @@
--- The scanner's answers, from those of the definitions: the line of an offset, a step for a scan, the rest of a comment, the closing of
--- a string.
-use Rattle.std.specs.Prelude.{◌≡◌, ℕ, suc, ◌+◌, ◌-◌, ◌≤◌, ◌<◌, Bool, ◌||◌, List, [], ◌∷◌, eqb, length, get_or}
-use Rattle.std.proofs.Math.Option.{Option, none, some}
+-- The scanner's answers, from those of the definitions: the line of an offset, a step for a scan, the closing of a string.
+use Rattle.std.specs.Prelude.{◌≡◌, ℕ, ◌+◌, ◌-◌, ◌≤◌, ◌<◌, Bool, ◌||◌, not, List, eqb, length, get_or, Option, Some, None, Result, Ok, Err}
+use Rattle.std.proofs.Math.Option as maybe
+use Rattle.std.proofs.Math.Option.{none, some}
 use Rattle.definitions.specs.declared.Place.{Place}
-use Rattle.definitions.specs.Basics.{when◌then◌otherwise◌}
-use Rattle.definitions.specs.Refusals.{most_text}
+use Rattle.definitions.specs.declared.Token.{Token}
+use Rattle.definitions.specs.declared.Refused.{Refused}
+use Rattle.definitions.specs.Refusals.{most_text, bad_token}
+use Rattle.definitions.specs.Refused.{refused_as}
 use Rattle.definitions.specs.Places.{newline, place_of}
 use Rattle.definitions.specs.Tokens.{Scan, token, bad}
 use Rattle.lexer.specs.declared.tokens.Line.{Line}
 use Rattle.lexer.specs.declared.tokens.Cursor.{Cursor}
-use Rattle.lexer.specs.declared.tokens.Step.{Step}
-use Rattle.lexer.specs.declared.tokens.Step.TheVariants as step
-use Rattle.lexer.specs.declared.tokens.Closing.{Closing}
-use Rattle.lexer.specs.declared.tokens.Closing.TheVariants as closing
 
 -- the line of an offset: its number, and where it began
 unfoldable pub line_at : List ℕ → ℕ → Line
@@ -27,37 +25,39 @@ pub record Located (s : List ℕ) (c : Cursor) : Type 0 where
   pub short : length s ≤ most_text
   pub line : c.line ≡ line_at s c.at
 
--- a cursor stands at the byte b, and its numbers are small
+-- a cursor's numbers are small, and it stands on its line
+abbrev pub Placed : Cursor → Type 0
+Placed c = (c.at ≤ most_text) × (c.line.began ≤ c.at)
+
+-- such a cursor stands at the byte b
 pub record Met (s : List ℕ) (c : Cursor) (b : ℕ) : Type 0 where
   pub inside : c.at < length s
   pub byte : b ≡ get_or s c.at 0
-  pub small : c.at ≤ most_text
-  pub began : c.line.began ≤ c.at
+  pub placed : Placed c
 
 -- the place where a cursor stands
 abbrev pub place_at : Cursor → Place
 place_at c = record { offset = c.at; line = c.line.number; column = c.at - c.line.began + 1 }
 
 -- a scan as the cursor answers it, on one line throughout
-abbrev pub on_line : Line → Scan → Step
-on_line l (token t next) = step.Token t (record { at = next; line = l })
-on_line l (bad p) = step.Bad p
+abbrev pub on_line : Line → Scan → Result (Token × Cursor) Refused
+on_line l (token t next) = Ok (t, record { at = next; line = l })
+on_line l (bad p) = Err (refused_as bad_token p)
 
 -- a scan as the cursor answers it, on the line of its end
-abbrev pub step_of : List ℕ → Scan → Step
-step_of s (token t next) = step.Token t (cursor_at s next)
-step_of s (bad p) = step.Bad p
+abbrev pub step_of : List ℕ → Scan → Result (Token × Cursor) Refused
+step_of s (token t next) = Ok (t, cursor_at s next)
+step_of s (bad p) = Err (refused_as bad_token p)
 
--- how many bytes the rest of a comment takes, up to its newline
-unfoldable pub comment : List ℕ → ℕ
-comment [] = 0
-comment (b ∷ bs) = when eqb b newline then (λ _. 0) otherwise λ _. suc (comment bs)
+-- a byte other than the newline: a comment goes on with it
+abbrev pub in_line : ℕ → Bool
+in_line b = not (eqb b newline)
 
 -- what a string may not hold, after a backslash either: the newline and the zero byte
 abbrev pub breaks : ℕ → Bool
 breaks b = eqb b 10 || eqb b 0
 
 -- the place after the closing quote of a string whose bytes begin at p
-abbrev pub closing_of : ℕ → Option ℕ → Closing
-closing_of p none = closing.Missing
-closing_of p (some n) = closing.Before (p + n + 1)
+abbrev pub closing_of : ℕ → maybe.Option ℕ → Option ℕ
+closing_of p none = None
+closing_of p (some n) = Some (p + n + 1)

@@ -5,6 +5,8 @@ ghost use Rattle.definitions.specs.Classes.{classes, class, class_rule};
 // The classes rise so that one comparison tells what separates (4 to 6), what is plain inside a string (5 and up), what goes on a
 // name (9 and up) and what begins one (10). Those with no name here: 0 the zero byte, 1 a byte over 127, 2 the backslash, 7 what no
 // token begins with, 10 letters and `_`.
+//
+// Kept: numbers and no enum, since the definitions' table holds numbers, and one comparison tells several of them.
 
 // `"` and `'`
 pub const QUOTE: u8 = 3;
@@ -23,7 +25,7 @@ pub const SYMBOL: u8 = 8;
 pub const DIGIT: u8 = 9;
 
 // The class of each byte.
-pub const CLASSES: [u8; 256] = [
+const CLASSES: [u8; 256] = [
     0, 7, 7, 7, 7, 7, 7, 7, 7, 5, 4, 5, 5, 5, 7, 7, 7, 7, 7, 7, 7, 7, 7, 7, 7, 7, 7, 7, 7, 7, 7, 7,
     5, 7, 3, 6, 7, 7, 7, 3, 7, 7, 7, 7, 8, 8, 7, 7, 9, 9, 9, 9, 9, 9, 9, 9, 9, 9, 8, 8, 8, 7, 8, 7,
     7, 10, 10, 10, 10, 10, 10, 10, 10, 10, 10, 10, 10, 10, 10, 10, 10, 10, 10, 10, 10, 10, 10, 10,
@@ -36,16 +38,21 @@ pub const CLASSES: [u8; 256] = [
 ];
 
 // The table, for the outermost caller to hold in a local and lend down.
-pub fn table() -> [u8; 256]
-    ensures { result ≡ classes }
-{
-    CLASSES
+#[derive(Drop)]
+pub struct ClassTable {
+    table: [u8; 256],
+    ghost kept: { table ≡ classes },
 }
 
-// The class of a byte, as the rule has it.
-pub(crate) fn class_of(b: u8, table: &[u8; 256]) -> u8
-    requires { table.now ≡ classes }
-    ensures { (result ≡ class b) × (result ≡ class_rule b) }
-{
-    table[b as usize]
+impl ClassTable {
+    pub fn new() -> ClassTable {
+        ClassTable { table: CLASSES }
+    }
+
+    // The class of a byte, as the rule has it.
+    pub fn class(&self, b: u8) -> u8
+        ensures { (result ≡ class b) × (result ≡ class_rule b) }
+    {
+        self.table[usize::from(b)]
+    }
 }

@@ -4,4 +4,5 @@
 pub mod classes;
 pub mod tokens;
 
+pub use classes::ClassTable;
 pub use tokens::{Cursor, Line, Step};

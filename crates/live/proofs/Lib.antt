@@ -3,3 +3,4 @@ pub mod Trees
 pub mod Sounds
 pub mod Entries
 pub mod Lives
+pub mod Seeks

@@ -1,11 +1,11 @@
--- Live, node by node: how values of a field share, when two values are the same, and the walk over a node's later siblings.
-use Prim.Native.Nat.{ℕ, ◌+◌, ◌≤◌, ◌<◌}
+-- Live, node by node: how values of a field share, when two values are the same, and when a later sibling takes a node's place.
+use Prim.Native.Nat.{ℕ, ◌+◌, ◌<◌}
 use native.Mathlib.Omega.{arith}
 use mathlib.Core.Bool.{Bool, true, false, not}
 use mathlib.Core.Path.{◌≡◌, refl, sym, ◌∙◌}
 use mathlib.Core.List.{List}
 use lib.Dec.{eqb, leb}
-use borrow.Author.Tests.{eqb-true, eqb-false, eq-eqb, ne_eqb, le-leb, lt-leb, leb-false}
+use borrow.Author.Tests.{eqb-true, eq-eqb, ne_eqb, le-leb, lt-leb, leb-false}
 use Rattle.definitions.specs.declared.Node.{Node}
 use Rattle.definitions.specs.declared.Want.{Want}
 use Rattle.definitions.specs.declared.Field.{Field}
@@ -14,15 +14,16 @@ use Rattle.definitions.specs.Image.{field, is_map, is_repeated}
 use Rattle.definitions.specs.Scope.{Scope, in_message, in_entry, want, within, nests, map_entry}
 use Rattle.definitions.specs.Nodes.{node_at, is_run, is_unknown, run_of, number_of, forest}
 use Rattle.definitions.specs.Validity.{field_fits}
-use Rattle.definitions.specs.Live.{number, run, inside, Tree, node, rank_of, value_of, tree_of, same_val, sharing, replaced, first_unknown}
+use Rattle.definitions.specs.Live.{number, run, inside, Tree, rank_of, value_of, tree_of, same_val, has, has_key, sharing, replaced, first_unknown}
 use Rattle.laws.proofs.Forest.{end_of}
 use Rattle.nodes.specs.Span.{Sound}
-use Rattle.live.specs.Live.{Entry, key_in, live_at}
+use Rattle.live.specs.declared.Sharing.TheVariants as share
+use Rattle.live.specs.Live.{Entry, Mapped, sharing_of, key_in, live_at}
 use Rattle.nodes.proofs.Scopes.{within-entry, within-message}
 use Rattle.validity.proofs.Checks.{fits-known}
 use Rattle.nodes.proofs.Ranks.{rank-known, rank-unknown}
-use Rattle.live.proofs.Sounds.{sound-tiled, sound-tree, sound-rest, sound-entry}
-use Rattle.live.proofs.Trees.{tree-none, tree-some, replaced-nil, replaced-all, replaced-other, replaced-last, replaced-key, replaced-not}
+use Rattle.live.proofs.Sounds.{sound-tree, sound-rest, sound-entry}
+use Rattle.live.proofs.Trees.{replaced-all, replaced-last, replaced-key}
 
 -- ---- sharing
 
@@ -51,17 +52,21 @@ module _ (s : List ℕ) (w : Want) (n : Node) where
       pub sharing-single : (f.label ≡ 2 → ⊥) → (f.label ≡ 3 → ⊥) → 0 ≡ sharing s (within w) (rank_of n)
       sharing-single y z = rw (known-sharing, ne_eqb f.label 2 y, ne_eqb f.label 3 z)
 
--- how values share is one of three
-pub sharing-le : (s : List ℕ) (c : Scope) (r : ℕ) → sharing s c r ≤ 2
-unfolding sharing
-sharing-le s (in_entry g) r = omega arith
-sharing-le s (in_message m) r = go (leb first_unknown r) refl (is_repeated (field s r)) refl (is_map (field s r)) refl
-  where
-    go : (a : Bool) → leb first_unknown r ≡ a → (b : Bool) → is_repeated (field s r) ≡ b → (d : Bool) → is_map (field s r) ≡ d → sharing s (in_message m) r ≤ 2
-    go true p b q d t = rw (p, sharing) (omega arith)
-    go false p true q d t = rw (p, q, sharing) (omega arith)
-    go false p false q true t = rw (p, q, t, sharing) (omega arith)
-    go false p false q false t = rw (p, q, t, sharing) (omega arith)
+-- the number behind how values share
+module _ (n : ℕ) where
+  by_number : (P : Type 0) → (n ≡ 0 → sharing_of n ≡ share.Last → P) → (n ≡ 1 → sharing_of n ≡ share.LastOfKey → P) → (sharing_of n ≡ share.All → P) → P
+  by_number P f g h = go (eqb n 0) refl (eqb n 1) refl
+    where
+      go : (a : Bool) → eqb n 0 ≡ a → (b : Bool) → eqb n 1 ≡ b → P
+      go true p b q = f (eqb-true n 0 p) (rw p)
+      go false p true q = g (eqb-true n 1 q) (rw (p, q))
+      go false p false q = h (rw (p, q))
+
+  pub sharing-last : sharing_of n ≡ share.Last → n ≡ 0
+  sharing-last h = by_number (n ≡ 0) (λ z _. z) (λ _ e. cc) (λ e. cc)
+
+  pub sharing-key : sharing_of n ≡ share.LastOfKey → n ≡ 1
+  sharing-key h = by_number (n ≡ 1) (λ _ e. cc) (λ z _. z) (λ e. cc)
 
 -- where keys count, a field is a map's
 pub sharing-one : (s : List ℕ) (c : Scope) (r : ℕ) → sharing s c r ≡ 1 → (r < first_unknown) × ((want s c r).kind ≡ map_entry)
@@ -134,7 +139,7 @@ module _ (pool : List ℕ) (a b : Node) where
       unfolding same_val
       same_numbers e q = rw (value-number pool a h e, value-number pool b k q)
 
--- ---- the walk over the later siblings of node i, from node j on
+-- ---- the later siblings of node i, as a tree
 
 -- what lies inside a node, and what stands from a node on, as trees
 abbrev pub kids_of : List ℕ → List ℕ → ℕ → Tree
@@ -143,15 +148,8 @@ kids_of pool w i = tree_of pool (forest w (i + 1) (end_of w i))
 abbrev pub from_on : List ℕ → List ℕ → ℕ → ℕ → Tree
 from_on pool w j e = tree_of pool (forest w j e)
 
-pub record Later (s pool w : List ℕ) (i e how mine j : ℕ) : Type 0 where
-  pub scope : Scope
-  pub sound : Sound s pool scope w j e
-  pub inside : j ≤ e
-  pub keyed : how ≡ 1 → (mine < first_unknown) × ((want s scope mine).kind ≡ map_entry) × Entry w pool i
-  pub alike : replaced how mine (kids_of pool w i) (from_on pool w (end_of w i) e) ≡ replaced how mine (kids_of pool w i) (from_on pool w j e)
-
 -- a node of a map's rank is an entry
-rank-entry : (s : List ℕ) (c : Scope) (n : Node) (r : ℕ) → field_fits s c n ≡ true → rank_of n ≡ r → r < first_unknown → (want s c r).kind ≡ map_entry
+pub rank-entry : (s : List ℕ) (c : Scope) (n : Node) (r : ℕ) → field_fits s c n ≡ true → rank_of n ≡ r → r < first_unknown → (want s c r).kind ≡ map_entry
     → n.kind ≡ map_entry
 rank-entry s c n r f e l k = go (is_unknown n.kind) refl
   where
@@ -161,100 +159,40 @@ rank-entry s c n r f e l k = go (is_unknown n.kind) refl
         let z : n.field ≡ r = sym (rank-known n q) ∙ e in
         (fits-known s c n f q).1 ∙ rw z k
 
+-- ---- whether a later sibling takes the place of node i
+
 module _ (s pool : List ℕ) (c : Scope) (w : List ℕ) (i e : ℕ) (x : Sound s pool c w i e) (h : i < e) (n : Node) (en : n ≡ node_at w i) where
   pub live-fits : field_fits s c n ≡ true
   live-fits = rw en (sound-tree s pool c w i e x h).fits
 
-  module _ (how : ℕ) (eh : how ≡ sharing s c (rank_of n)) where
-    pub live_all : how ≡ 2 → true ≡ live_at s pool c w i e
-    unfolding live_at
-    live_all z =
-        let q : sharing s c (rank_of (node_at w i)) ≡ 2 = rw en at (sym eh ∙ z) in
-        rw (replaced-all (sharing s c (rank_of (node_at w i))) (rank_of (node_at w i)) (kids_of pool w i) q (from_on pool w (end_of w i) e))
+  pub live-after : Sound s pool c w n.end e
+  live-after = rw en (sound-rest s pool c w i e x h)
 
-    module _ (mine : ℕ) (em : mine ≡ rank_of n) where
-      pub later-start : Later s pool w i e how mine n.end
-      later-start = record {
-        scope = c;
-        sound = rw en (sound-rest s pool c w i e x h);
-        inside = rw en (sound-tiled s pool c w i e x h).inside;
-        keyed = λ z.
-            let o = sharing-one s c (rank_of n) (sym eh ∙ z) in
-            let a : mine < first_unknown = rw em o.0 in
-            let b : (want s c mine).kind ≡ map_entry = rw em o.1 in
-            (a, b, sound-entry s pool c w i e x h (rank-entry s c (node_at w i) mine (rw en at live-fits) (rw en at (sym em)) a b));
-        alike = rw en;
-      }
+  live-is : (b : Bool) → replaced (sharing s c (rank_of n)) (rank_of n) (kids_of pool w i) (from_on pool w n.end e) ≡ b → not b ≡ live_at s pool c w i e
+  unfolding live_at
+  live-is b q = rw (← q, en)
 
-      live-is : live_at s pool c w i e ≡ not (replaced how mine (kids_of pool w i) (from_on pool w (end_of w i) e))
-      unfolding live_at
-      live-is = rw (eh, em, en)
+  pub live_all : sharing_of (sharing s c (rank_of n)) ≡ share.All → true ≡ live_at s pool c w i e
+  live_all z = live-is false (replaced-all (sharing s c (rank_of n)) (rank_of n) (kids_of pool w i) (from_on pool w n.end e) z)
 
-      module _ (j : ℕ) (y : Later s pool w i e how mine j) where
-        pub later-end : e ≤ j → true ≡ live_at s pool c w i e
-        later-end k = rw (live-is, y.alike, tree-none pool w j e k, replaced-nil how mine (kids_of pool w i))
+  pub live_last : sharing_of (sharing s c (rank_of n)) ≡ share.Last → (b : Bool) → b ≡ has (rank_of n) (from_on pool w n.end e) → not b ≡ live_at s pool c w i e
+  live_last z b q =
+      live-is b (replaced-last (sharing s c (rank_of n)) (rank_of n) (kids_of pool w i) (from_on pool w n.end e) (sharing-last (sharing s c (rank_of n)) z) ∙ sym q)
 
-        module _ (k : j < e) (m : Node) (ej : m ≡ node_at w j) where
-          here : from_on pool w j e
-              ≡ node (rank_of (node_at w j)) (node_at w j).kind (value_of pool (node_at w j)) (kids_of pool w j) (from_on pool w (end_of w j) e)
-          here = tree-some pool w j e k y.sound.tiled
+  module _ (z : sharing_of (sharing s c (rank_of n)) ≡ share.LastOfKey) where
+    mapped : (rank_of n < first_unknown) × ((want s c (rank_of n)).kind ≡ map_entry)
+    mapped = sharing-one s c (rank_of n) (sharing-key (sharing s c (rank_of n)) z)
 
-          onward : replaced how mine (kids_of pool w i)
-              (node (rank_of (node_at w j)) (node_at w j).kind (value_of pool (node_at w j)) (kids_of pool w j) (from_on pool w (end_of w j) e))
-              ≡ replaced how mine (kids_of pool w i) (from_on pool w (end_of w j) e) → Later s pool w i e how mine m.end
-          onward q = record {
-            scope = y.scope;
-            sound = rw ej (sound-rest s pool y.scope w j e y.sound k);
-            inside = rw ej (sound-tiled s pool y.scope w j e y.sound k).inside;
-            keyed = y.keyed;
-            alike = y.alike ∙ rw (here, ej) q;
-          }
+    pub live-entry : Entry w pool i
+    live-entry =
+        sound-entry s pool c w i e x h
+        (rank-entry s c (node_at w i) (rank_of n) (rw en at live-fits) (rw en) mapped.0 mapped.1)
 
-          pub later-on : j < m.end
-          later-on = rw ej (sound-tiled s pool y.scope w j e y.sound k).on
+    pub live-mapped : Mapped pool w (rank_of n) n.end e
+    live-mapped = record { image = s; scope = c; known = mapped.0; map = mapped.1; sound = live-after }
 
-          pub later_last : rank_of m ≡ mine → how ≡ 0 → false ≡ live_at s pool c w i e
-          later_last r z =
-              rw (
-                live-is,
-                y.alike,
-                here,
-                replaced-last how mine (kids_of pool w i) (rank_of (node_at w j)) (node_at w j).kind (value_of pool (node_at w j)) (kids_of pool w j) (from_on pool w (end_of w j) e) (rw ej at r) z,
-              )
-
-          module _ (r : rank_of m ≡ mine) (z : how ≡ 0 → ⊥) (t : how ≡ 2 → ⊥) where
-            one : how ≡ 1
-            one = go (eqb how 0) refl (eqb how 2) refl
-              where
-                go : (a : Bool) → eqb how 0 ≡ a → (b : Bool) → eqb how 2 ≡ b → how ≡ 1
-                go true p b q = absurd (z (eqb-true how 0 p))
-                go false p true q = absurd (t (eqb-true how 2 q))
-                go false p false q =
-                    let n₀ = eqb-false how 0 p in
-                    let n₂ = eqb-false how 2 q in
-                    omega (arith, eh, sharing-le s c (rank_of n))
-
-            pub later-entries : Entry w pool i × Entry w pool j
-            later-entries =
-                let o = y.keyed one in
-                let f = (sound-tree s pool y.scope w j e y.sound k).fits in
-                (o.2, sound-entry s pool y.scope w j e y.sound k (rank-entry s y.scope (node_at w j) mine f (rw ej at r) o.0 o.1))
-
-            pub later-key : same_val (key_in w pool j) (key_in w pool i) ≡ true → false ≡ live_at s pool c w i e
-            unfolding key_in
-            later-key v =
-                rw (
-                  live-is,
-                  y.alike,
-                  here,
-                  replaced-key how mine (kids_of pool w i) (rank_of (node_at w j)) (node_at w j).kind (value_of pool (node_at w j)) (kids_of pool w j) (from_on pool w (end_of w j) e) (rw ej at r) one v,
-                )
-
-            pub later-unlike : same_val (key_in w pool j) (key_in w pool i) ≡ false → Later s pool w i e how mine m.end
-            unfolding key_in
-            later-unlike v = onward
-                (replaced-not how mine (kids_of pool w i) (rank_of (node_at w j)) (node_at w j).kind (value_of pool (node_at w j)) (kids_of pool w j) (from_on pool w (end_of w j) e) (rw ej at r) one v)
-
-          pub later-other : (rank_of m ≡ mine → ⊥) → Later s pool w i e how mine m.end
-          later-other r = onward
-              (replaced-other how mine (kids_of pool w i) (rank_of (node_at w j)) (node_at w j).kind (value_of pool (node_at w j)) (kids_of pool w j) (from_on pool w (end_of w j) e) (λ q. r (rw ej q)))
+    pub live_key : (b : Bool) → b ≡ has_key (rank_of n) (key_in w pool i) (from_on pool w n.end e) → not b ≡ live_at s pool c w i e
+    unfolding key_in
+    live_key b q =
+        live-is b
+        (replaced-key (sharing s c (rank_of n)) (rank_of n) (kids_of pool w i) (from_on pool w n.end e) (sharing-key (sharing s c (rank_of n)) z) ∙ sym q)

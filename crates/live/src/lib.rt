@@ -2,61 +2,60 @@
 // all repeated and unknown values are live.
 #![tactic(auto)]
 
-ghost use Rattle.std.specs.Prelude.{◌≡◌, true, ◌+◌, ◌<◌};
+ghost use Rattle.std.specs.Prelude.{◌≡◌, true, List, ℕ, ◌+◌, ◌*◌, ◌≤◌, ◌<◌, length};
 ghost use Rattle.definitions.specs.Scope.{within};
 ghost use Rattle.definitions.specs.Nodes as table;
 ghost use Rattle.definitions.specs.Validity.{field_fits};
 ghost use Rattle.definitions.specs.Live as spec;
-ghost use Rattle.records.specs.Known.{Known};
 ghost use Rattle.nodes.specs.Span.{There, Sound};
-ghost use Rattle.live.specs.Live.{Kept, Pair, Entry, key_at, key_in, live_at};
+ghost use Rattle.live.specs.Live.{Kept, Pair, Entry, Mapped, sharing_of, key_at, key_in, live_at};
 
 use definitions::{Node, Want, kinds, labels};
-use nodes::{is_run, is_unknown, nests, node, number, rank, run};
-use records::Layout;
+use nodes::{Siblings, node};
+use records::Schema;
 
-// How values of a node's rank live beside each other: 0 the last one, 1 the last one of each key, 2 all.
-fn sharing(image: &[u8], layout: Layout, w: Want, n: Node) -> u8
-    requires { Known image.now layout × There image.now (within w) × (field_fits image.now (within w) n ≡ true) }
-    ensures { result ≡ spec.sharing image.now (within w) (spec.rank_of n) }
+// How values of a rank live beside each other.
+#[derive(Clone, Copy)]
+enum Sharing {
+    Last,
+    LastOfKey,
+    All,
+}
+
+// How values of a node's rank do.
+fn sharing_at(schema: &Schema, w: Want, n: Node) -> Sharing
+    requires { There schema.now.image.now (within w) × (field_fits schema.now.image.now (within w) n ≡ true) }
+    ensures { result ≡ sharing_of (spec.sharing schema.now.image.now (within w) (spec.rank_of n)) }
 {
     if w.kind == kinds::ENTRY {
-        return 0;
+        return Sharing::Last;
     }
-    if is_unknown(n.kind) {
-        return 2;
+    if n.is_unknown() {
+        return Sharing::All;
     }
-    let field = records::field(image, layout, n.field as usize);
-    if field.label == labels::REPEATED {
-        return 2;
+    match schema.field(n.field as usize).label {
+        labels::REPEATED => Sharing::All,
+        labels::MAP => Sharing::LastOfKey,
+        _ => Sharing::Last,
     }
-    if field.label == labels::MAP {
-        return 1;
-    }
-    0
 }
 
 // Two values are the same: numbers, or bytes wherever they lie in the pool.
+#[tactic(auto, unfolding(definitions::specs::Live::same_val, definitions::specs::Live::value_of))]
 fn same_value(pool: &[u8], a: Node, b: Node) -> bool
     requires { Kept pool.now a × Kept pool.now b }
     ensures { result ≡ spec.same_val (spec.value_of pool.now a) (spec.value_of pool.now b) }
 {
-    if is_run(a.kind) {
-        if is_run(b.kind) {
-            return records::same(run(pool, a), run(pool, b));
-        }
+    if a.is_run() {
+        return b.is_run() && records::same(a.run(pool), b.run(pool));
+    }
+    if b.is_run() {
         return false;
     }
-    if is_run(b.kind) {
-        return false;
+    if a.nests() {
+        return b.nests();
     }
-    if nests(a.kind) {
-        return nests(b.kind);
-    }
-    if nests(b.kind) {
-        return false;
-    }
-    number(a) == number(b)
+    !b.nests() && a.number() == b.number()
 }
 
 // The key of entry `i`: its first child, or its second.
@@ -79,37 +78,39 @@ fn same_key(nodes: &[u32], pool: &[u8], i: usize, j: usize) -> bool
     same_value(pool, key(nodes, j), key(nodes, i))
 }
 
+// A value of that rank stands among the siblings from `from` up to `to`, whatever the pool holds.
+pub fn has(nodes: &[u32], rank: usize, from: usize, to: usize) -> bool
+    requires { (table.tiles nodes.now from to ≡ true) × (5 * to ≤ length nodes.now) }
+    ensures { (pool : List ℕ) → result ≡ spec.has rank (spec.tree_of pool (table.forest nodes.now from to)) }
+{
+    Siblings::of(nodes, from, to).any(|(_, n)| n.rank() == rank)
+}
+
+// An entry of that rank with the key of entry `i` stands among the siblings from `from` up to `to`.
+fn has_key(nodes: &[u32], pool: &[u8], rank: usize, i: usize, from: usize, to: usize) -> bool
+    requires { Entry nodes.now pool.now i × Mapped pool.now nodes.now rank from to }
+    ensures { result ≡ spec.has_key rank (key_in nodes.now pool.now i) (spec.tree_of pool.now (table.forest nodes.now from to)) }
+{
+    // Kept: a loop, whose invariant knows that each sibling of the rank is an entry; the closure of `any` would need a walk of its own for that.
+    for (j, n) in Siblings::of(nodes, from, to) {
+        if n.rank() == rank && same_key(nodes, pool, i, j) {
+            return true;
+        }
+    }
+    false
+}
+
 // Node `i` of the span up to `e`, in the scope inside `w`, is not replaced by a later sibling.
-pub fn is_live(
-    image: &[u8],
-    layout: Layout,
-    nodes: &[u32],
-    pool: &[u8],
-    w: Want,
-    i: usize,
-    e: usize,
-) -> bool
-    requires { Known image.now layout × There image.now (within w) × Sound image.now pool.now (within w) nodes.now i e × (i < e) }
-    ensures { result ≡ live_at image.now pool.now (within w) nodes.now i e }
+#[inline(always)]
+pub fn is_live(schema: &Schema, nodes: &[u32], pool: &[u8], w: Want, i: usize, e: usize) -> bool
+    requires { There schema.now.image.now (within w) × Sound schema.now.image.now pool.now (within w) nodes.now i e × (i < e) }
+    ensures { result ≡ live_at schema.now.image.now pool.now (within w) nodes.now i e }
 {
     let n = node(nodes, i);
-    let how = sharing(image, layout, w, n);
-    if how == 2 {
-        return true;
+    let next = n.end as usize;
+    match sharing_at(schema, w, n) {
+        Sharing::Last => !has(nodes, n.rank(), next, e),
+        Sharing::LastOfKey => !has_key(nodes, pool, n.rank(), i, next, e),
+        Sharing::All => true,
     }
-    let mine = rank(n);
-    let mut j = n.end as usize;
-    while j < e {
-        let m = node(nodes, j);
-        if rank(m) == mine {
-            if how == 0 {
-                return false;
-            }
-            if same_key(nodes, pool, i, j) {
-                return false;
-            }
-        }
-        j = m.end as usize;
-    }
-    true
 }

@@ -4,6 +4,7 @@ use native.Mathlib.Omega.{arith}
 use mathlib.Core.Bool.{Bool, true, false}
 use mathlib.Core.Path.{◌≡◌, refl, ◌∙◌}
 use mathlib.Core.List.{List, []}
+use Rattle.std.specs.Prelude.{Some, None}
 use lib.Dec.{ltb}
 use lib.ListN.{length, take, drop}
 use borrow.Author.Tests.{ltb-true, lt-ltb, le-ltb}
@@ -16,7 +17,7 @@ use Rattle.laws.proofs.Lists.{and_parts, true-false}
 use Rattle.nodes.proofs.Words.{run-part}
 use Rattle.validity.proofs.Root.{root-parts}
 use Rattle.validity.proofs.Values.{good-run, valid-root, valid-value}
-use Rattle.message.specs.declared.access.Run.TheVariants as run
+use Rattle.message.specs.declared.access.Run.{Run}
 use Rattle.message.specs.Value.{Lendable, value_run, lent_run}
 
 pub valid-lendable : (s : List ℕ) (root : ℕ) (w pool : List ℕ) → valid s root w pool ≡ true → Lendable w pool
@@ -34,41 +35,40 @@ valid-lendable s root w pool v = record { root = valid-root s root w pool v; run
 -- ---- a value's run
 
 module _ (w : List ℕ) (i : ℕ) where
-  pub value-past : table_end w ≤ i → run.Nothing ≡ value_run w i
+  pub value-past : table_end w ≤ i → None ≡ value_run w i
   unfolding value_run is_value
   value-past h = simp (le-ltb i (table_end w) h)
 
   module _ (h : i < table_end w) (n : Node) (e : n ≡ node_at w i) where
-    pub value-at : is_run n.kind ≡ true → run.At n.high n.low ≡ value_run w i
+    pub value-at : is_run n.kind ≡ true → Some (record { start = n.high; length = n.low }) ≡ value_run w i
     unfolding value_run is_value
     value-at k = let q : is_run (node_at w i).kind ≡ true = rw e at k in rw e (simp (lt-ltb i (table_end w) h, q))
 
-    pub value-other : is_run n.kind ≡ false → run.Nothing ≡ value_run w i
+    pub value-other : is_run n.kind ≡ false → None ≡ value_run w i
     unfolding value_run is_value
     value-other k = let q : is_run (node_at w i).kind ≡ false = rw e at k in simp (lt-ltb i (table_end w) h, q)
 
   module _ (pool : List ℕ) where
-    pub lent_none : value_run w i ≡ run.Nothing → [] ≡ lent_run w pool i
+    pub lent_none : value_run w i ≡ None → [] ≡ lent_run w pool i
     unfolding value_run lent_run
     lent_none h = go (is_value w i) refl
       where
         go : (t : Bool) → is_value w i ≡ t → [] ≡ lent_run w pool i
-        go true e = let z : ◌≡◌ {A = ℕ} 0 1 = cc (rw (e, value_run) at h) in absurd (omega arith)
+        go true e = cc (rw (e, value_run) at h)
         go false e = simp e
 
-    pub lent_at : (a b : ℕ) → value_run w i ≡ run.At a b → (is_value w i ≡ true) × (a ≡ (node_at w i).high) × (b ≡ (node_at w i).low)
-    unfolding value_run
-    lent_at a b h = go (is_value w i) refl
-      where
-        go : (t : Bool) → is_value w i ≡ t → (is_value w i ≡ true) × (a ≡ (node_at w i).high) × (b ≡ (node_at w i).low)
-        go true e = let x = rw (e, value_run) at h in (e, cc x, cc x)
-        go false e = let z : ◌≡◌ {A = ℕ} 0 1 = cc (rw (e, value_run) at h) in absurd (omega arith)
+    module _ (r : Run) (h : value_run w i ≡ Some r) where
+      pub lent_at : (is_value w i ≡ true) × (r ≡ record { start = (node_at w i).high; length = (node_at w i).low })
+      unfolding value_run
+      lent_at = go (is_value w i) refl
+        where
+          go : (t : Bool) → is_value w i ≡ t → (is_value w i ≡ true) × (r ≡ record { start = (node_at w i).high; length = (node_at w i).low })
+          go true e = let x = rw (e, value_run) at h in (e, cc x)
+          go false e = cc (rw (e, value_run) at h)
 
-    pub lent-part : (a b : ℕ) → value_run w i ≡ run.At a b → take (a + b - a) (drop a pool) ≡ lent_run w pool i
-    unfolding lent_run
-    lent-part a b h =
-        let x = lent_at a b h in
-        rw (x.1, x.2) (run-part pool (node_at w i) ∙ simp x.0)
+      pub lent-part : take (r.start + r.length - r.start) (drop r.start pool) ≡ lent_run w pool i
+      unfolding lent_run
+      lent-part = rw lent_at.1 (run-part pool (node_at w i) ∙ simp lent_at.0)
 
-    pub lent-inside : Lendable w pool → (a b : ℕ) → value_run w i ≡ run.At a b → a + b ≤ length pool
-    lent-inside l a b h = let x = lent_at a b h in rw (x.1, x.2) (l.runs i x.0)
+      pub lent-inside : Lendable w pool → r.start + r.length ≤ length pool
+      lent-inside l = rw lent_at.1 (l.runs i lent_at.0)

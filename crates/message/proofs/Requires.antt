@@ -1,115 +1,62 @@
--- The required check, node by node: whether a rank has a value, whether a message's required fields have one, and the walk over the
--- live messages and entries of a span.
+-- The required check, node by node: whether a message's required fields have a value, and the walk over the live messages and entries
+-- of a span.
 use Prim.Native.Nat.{ℕ, ◌+◌, ◌≤◌, ◌<◌}
 use native.Mathlib.Omega.{arith}
-use native.Mathlib.Numerals.{add-one}
 use mathlib.Core.Bool.{Bool, true, false, ◌&&◌, ◌||◌, not}
-use mathlib.Core.Path.{◌≡◌, refl, sym, ap, ◌∙◌}
+use mathlib.Core.Path.{◌≡◌, refl, sym, ◌∙◌}
 use mathlib.Core.List.{List}
-use borrow.Author.Tests.{eq-eqb, ne_eqb, not-true, not-false}
+use borrow.Author.Tests.{not-true, not-false}
+use Rattle.std.proofs.Common.{length}
+use Rattle.std.specs.Bool.{MatchBool}
+use Rattle.std.specs.List.{AllWithin, HoldsAt, range_with_len}
+use Rattle.std.proofs.lemmas.List.FromFn.{length-range_with_len, get_or-range_with_len}
 use Rattle.definitions.specs.declared.Node.{Node}
 use Rattle.definitions.specs.declared.Want.{Want}
 use Rattle.definitions.specs.declared.Span.{Span}
-use Rattle.definitions.specs.declared.Field.{Field}
 use Rattle.definitions.specs.Basics.{when◌then◌otherwise◌, all}
-use Rattle.definitions.specs.Image.{field_count, message, field, is_required, accepted}
+use Rattle.definitions.specs.Image.{message, field, is_required, accepted}
 use Rattle.definitions.specs.Scope.{Scope, in_message, want, within, has_field, nests, map_entry}
-use Rattle.definitions.specs.Nodes.{node_at, table_end, forest, tiles}
+use Rattle.definitions.specs.Nodes.{node_at, table_end, forest}
 use Rattle.definitions.specs.Validity.{below}
 use Rattle.definitions.specs.Live.{Tree, rank_of, tree_of, has, sharing, replaced, canon, meaning}
 use Rattle.definitions.specs.Required.{filled, filled_in, complete}
-use Rattle.laws.proofs.Lists.{all-fails, and-made}
-use Rattle.laws.proofs.Forest.{end_of, Tiled, tiles-le, tiles-parts}
+use Rattle.laws.proofs.Lists.{all_made, all-fails}
+use Rattle.laws.proofs.Forest.{end_of, tiles-le}
 use Rattle.laws.proofs.Canon.{filled_at, live_below, complete-canon}
-use Rattle.records.proofs.Accepted.{message-inside}
 use Rattle.nodes.specs.Span.{There, Sound}
 use Rattle.live.specs.Live.{live_at}
-use Rattle.nodes.proofs.Scopes.{within-entry, within-message, there-message, there-want, nests-known}
+use Rattle.nodes.proofs.Scopes.{within-entry, within-message, there-want, nests-known}
 use Rattle.validity.proofs.Checks.{fits-known}
 use Rattle.nodes.proofs.Ranks.{rank-known}
 use Rattle.live.proofs.Sounds.{sound-tiled, sound-tree, sound-rest, sound-kids}
 use Rattle.live.proofs.Trees.{tree-none, tree-some}
 use Rattle.live.proofs.Lives.{kids_of, from_on}
 
--- ---- a rank has a value
-
-pub record Seek (w : List ℕ) (r from to i : ℕ) : Type 0 where
-  pub inside : i ≤ to
-  pub tiled : tiles w i to ≡ true
-  pub alike : (pool : List ℕ) → has r (from_on pool w from to) ≡ has r (from_on pool w i to)
-
-module _ (w : List ℕ) (r from to : ℕ) where
-  pub seek-start : tiles w from to ≡ true → Seek w r from to from
-  seek-start t = record { inside = tiles-le w from to t; tiled = t; alike = λ pool. refl }
-
-  module _ (i : ℕ) (x : Seek w r from to i) where
-    pub seek-end : to ≤ i → (pool : List ℕ) → false ≡ has r (from_on pool w from to)
-    unfolding has
-    seek-end h pool = rw (x.alike pool, tree-none pool w i to h)
-
-    module _ (h : i < to) (n : Node) (e : n ≡ node_at w i) where
-      here : Tiled w i to
-      here = tiles-parts w i to h x.tiled
-
-      pub seek_found : rank_of n ≡ r → (pool : List ℕ) → true ≡ has r (from_on pool w from to)
-      unfolding has
-      seek_found q pool =
-          let z : rank_of (node_at w i) ≡ r = rw e at q in
-          rw (x.alike pool, tree-some pool w i to h x.tiled, eq-eqb (rank_of (node_at w i)) r z)
-
-      pub seek-on : i < n.end
-      seek-on = rw e here.on
-
-      pub seek-past : (rank_of n ≡ r → ⊥) → Seek w r from to n.end
-      unfolding has
-      seek-past q = record {
-        inside = rw e here.inside;
-        tiled = rw e here.rest;
-        alike = λ pool. x.alike pool ∙ rw (tree-some pool w i to h x.tiled, ne_eqb (rank_of (node_at w i)) r (λ z. q (rw e z)), e);
-      }
-
 -- ---- the required fields of a message
 
--- the field that far into a message is not required, or has a value
-abbrev pub given : List ℕ → Span → Tree → ℕ → Bool
-given s run t k = not (is_required (field s (run.first + k))) || has (run.first + k) t
+-- the field is not required, or has a value
+abbrev pub given : List ℕ → Tree → ℕ → Bool
+given s t i = not (is_required (field s i)) || has i t
 
-module _ (s : List ℕ) (t : Tree) (run : Span) (k : ℕ) (f : Field) (ef : f ≡ field s (run.first + k)) where
-  pub given-other : (f.label ≡ 1 → ⊥) → given s run t k ≡ true
-  given-other r = rw (ne_eqb (field s (run.first + k)).label 1 (λ z. r (rw ef z)))
-
-  pub given-has : f.label ≡ 1 → has (run.first + k) t ≡ true → given s run t k ≡ true
-  given-has r n =
-      let q : (field s (run.first + k)).label ≡ 1 = rw ef at r in
-      rw (eq-eqb (field s (run.first + k)).label 1 q, n)
-
-pub all_more : (k : ℕ) (p : ℕ → Bool) → all k p ≡ true → p k ≡ true → all (k + 1) p ≡ true
-unfolding all
-all_more k p h l = rw (add-one k) (and-made (all k p) (p k) h l)
+-- a test that passes at all numbers of a range, or fails at one
+pub all-over : (p : ℕ → Bool) (first count : ℕ) (r : Bool)
+    → MatchBool r (AllWithin (λ i. p i ≡ true) (range_with_len first count) 0 (length (range_with_len first count))) ((k : ℕ) × (k < length (range_with_len first count)) × HoldsAt (λ i. p i ≡ false) (range_with_len first count) k)
+    → r ≡ all count (λ k. p (first + k))
+all-over p first count true h =
+    sym (all_made count (λ k. p (first + k))
+    (λ k l. rw (get_or-range_with_len first count k 0 l) at (h k 0 (omega arith) (omega (arith, length-range_with_len first count)))))
+all-over p first count false h =
+    let l : h.0 < count = omega (arith, length-range_with_len first count, h.1) in
+    sym (all-fails count (λ k. p (first + k)) h.0 l (rw (get_or-range_with_len first count h.0 0 l) at (h.2 0)))
 
 module _ (s : List ℕ) (w : Want) (t : Tree) where
   pub filled-entry : w.kind ≡ map_entry → true ≡ filled_in s (within w) t
   unfolding filled_in
   filled-entry h = rw (within-entry w h)
 
-  module _ (h : w.kind ≡ map_entry → ⊥) (run : Span) (e : run ≡ message s w.reference) where
-    filled_is : filled_in s (within w) t ≡ all run.count (given s run t)
-    unfolding filled_in filled
-    filled_is = rw (within-message w h, e)
-
-    pub filled-done : (k : ℕ) → k ≤ run.count → run.count ≤ k → all k (given s run t) ≡ true → true ≡ filled_in s (within w) t
-    filled-done k a b h = let q : run.count ≡ k = omega arith in sym (filled_is ∙ rw q h)
-
-    pub filled-not : (k : ℕ) (f : Field) → f ≡ field s (run.first + k) → k < run.count → f.label ≡ 1 → has (run.first + k) t ≡ false → false ≡ filled_in s (within w) t
-    filled-not k f ef l r n =
-        let q : (field s (run.first + k)).label ≡ 1 = rw ef at r in
-        sym (filled_is ∙ all-fails run.count (given s run t) k l (rw (eq-eqb (field s (run.first + k)).label 1 q, n)))
-
-pub run-field : (s : List ℕ) (w : Want) → accepted s ≡ true → There s (within w) → (w.kind ≡ map_entry → ⊥) → (run : Span) → run ≡ message s w.reference
-    → (k : ℕ) → k < run.count → run.first + k < field_count s
-run-field s w good t h run e k l =
-    let i = message-inside s good w.reference (there-message s w h t) in
-    omega (arith, ap (λ (r : Span). r.first) e, ap (λ (r : Span). r.count) e)
+  pub filled-all : (w.kind ≡ map_entry → ⊥) → (run : Span) → run ≡ message s w.reference → (r : Bool) → r ≡ all run.count (λ k. given s t (run.first + k)) → r ≡ filled_in s (within w) t
+  unfolding filled_in filled
+  filled-all h run e r q = rw (within-message w h, ← e) q
 
 -- ---- the live messages and entries of a span
 

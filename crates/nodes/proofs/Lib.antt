@@ -2,3 +2,4 @@
 pub mod Words
 pub mod Scopes
 pub mod Ranks
+pub mod Turns

@@ -6,7 +6,7 @@ use mathlib.Core.Logic.{◌⊎◌, inl, inr}
 use mathlib.Core.Path.{◌≡◌, refl, sym}
 use mathlib.Core.List.{List}
 use lib.Dec.{eqb, ltb, leb}
-use borrow.Author.Tests.{ltb-true, ltb-false, eqb-true, lt-ltb, le-ltb, le-leb, lt-leb, eq-eqb, ne_eqb}
+use borrow.Author.Tests.{ltb-true, ltb-false, eqb-true, lt-ltb, le-ltb, le-leb, eq-eqb, ne_eqb}
 use Rattle.definitions.specs.declared.Want.{Want}
 use Rattle.definitions.specs.declared.Field.{Field}
 use Rattle.definitions.specs.declared.Span.{Span}
@@ -17,7 +17,7 @@ use Rattle.definitions.specs.Reading.{root_want}
 use Rattle.laws.proofs.Lists.{and_parts, true-false}
 use Rattle.records.proofs.Room.{field_count-lt}
 use Rattle.records.proofs.Accepted.{message-inside, field-has, reference-message, kind-range, key-range, key-none}
-use Rattle.nodes.specs.Span.{There, Inside}
+use Rattle.nodes.specs.Span.{There, Inside, FieldsAre}
 
 -- ---- what lies inside
 
@@ -46,25 +46,20 @@ there-message s w h t = rw (within-message w h) at t
 
 -- ---- the fields of a scope
 
-pub has_field-entry : (s : List ℕ) (w : Want) (i : ℕ) → w.kind ≡ map_entry → has_field s (within w) i ≡ ltb i 2
-unfolding has_field
-has_field-entry s w i h = rw (within-entry w h)
-
-ltb-from : (a b i : ℕ) → a ≤ i → ltb (i - a) b ≡ ltb i (a + b)
+pub ltb-from : (a b i : ℕ) → a ≤ i → ltb (i - a) b ≡ ltb i (a + b)
 ltb-from a b i h = go (ltb (i - a) b) refl
   where
     go : (t : Bool) → ltb (i - a) b ≡ t → t ≡ ltb i (a + b)
     go true e = let x = ltb-true (i - a) b e in sym (lt-ltb i (a + b) (omega arith))
     go false e = let x = ltb-false (i - a) b e in sym (le-ltb i (a + b) (omega arith))
 
-module _ (s : List ℕ) (w : Want) (i : ℕ) (h : w.kind ≡ map_entry → ⊥) (r : Span) (e : r ≡ message s w.reference) where
-  pub has_field-before : i < r.first → has_field s (within w) i ≡ false
-  unfolding has_field
-  has_field-before l = rw (within-message w h, ← e, lt-leb r.first i l)
+pub fields-entry : (s : List ℕ) (w : Want) → w.kind ≡ map_entry → FieldsAre s (within w) (record { first = 0; count = 2 })
+unfolding has_field
+fields-entry s w h i = rw (within-entry w h, le-leb 0 i (omega arith))
 
-  pub has_field-message : r.first ≤ i → has_field s (within w) i ≡ ltb (i - r.first) r.count
-  unfolding has_field
-  has_field-message l = rw (within-message w h, ← e, le-leb r.first i l) (sym (ltb-from r.first r.count i l))
+pub fields-message : (s : List ℕ) (w : Want) → (w.kind ≡ map_entry → ⊥) → (run : Span) → run ≡ message s w.reference → FieldsAre s (within w) run
+unfolding has_field
+fields-message s w h run e i = rw (within-message w h, e)
 
 module _ (s : List ℕ) (good : accepted s ≡ true) where
   -- a field of a message is one of the schema

@@ -1,6 +1,7 @@
 -- What the functions over a table presume of a scope, and what is good of a span of nodes.
 use Rattle.std.specs.Prelude.{ℕ, ◌+◌, ◌*◌, ◌≤◌, ◌<◌, ◌≡◌, Bool, true, false, ◌&&◌, ◌||◌, List, ltb, leb, length}
 use Rattle.definitions.specs.declared.Node.{Node}
+use Rattle.definitions.specs.declared.Span.{Span}
 use Rattle.definitions.specs.Basics.{when◌then◌otherwise◌}
 use Rattle.definitions.specs.Image.{message_count, field_count}
 use Rattle.definitions.specs.Scope.{Scope, in_message, in_entry, has_field, nests}
@@ -15,6 +16,10 @@ There s (in_entry g) = g < field_count s
 -- a field of the scope
 abbrev pub Inside : List ℕ → Scope → ℕ → Type 0
 Inside s c i = has_field s c i ≡ true
+
+-- a run of all the scope's fields, and of no others
+abbrev pub FieldsAre : List ℕ → Scope → Span → Type 0
+FieldsAre s c run = (i : ℕ) → has_field s c i ≡ (leb run.first i && ltb i (run.first + run.count))
 
 -- the nodes from one up to another tile the span and are good in a scope, messages and entries at most so deep
 unfoldable pub span_good : (s pool : List ℕ) → Scope → (left : ℕ) → (w : List ℕ) → (i e : ℕ) → Bool

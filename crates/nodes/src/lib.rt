@@ -1,18 +1,17 @@
 // A node table's words, and the scopes that its nodes stand in: a message, or an entry of a map field.
 #![tactic(auto)]
 
+mod walk;
+
 ghost use Rattle.std.specs.Prelude.{◌≡◌, ◌+◌, ◌*◌, ◌≤◌, length};
 ghost use Rattle.definitions.specs.Scope as scope;
 ghost use Rattle.definitions.specs.Nodes as table;
-ghost use Rattle.definitions.specs.Live as live;
 ghost use Rattle.definitions.specs.Reading.{root_want};
-ghost use Rattle.records.specs.Known.{Known};
-ghost use Rattle.nodes.specs.Span.{There, Inside};
+ghost use Rattle.nodes.specs.Span.{There, Inside, FieldsAre};
 
-use definitions::kinds::words;
-use definitions::limits::FIRST_UNKNOWN;
-use definitions::{Field, Node, Want, kinds, labels};
-use records::Layout;
+use definitions::{Field, Node, Span, Want, kinds, labels};
+use records::Schema;
+pub use walk::Siblings;
 
 // The five words of node `i`.
 pub fn node(nodes: &[u32], i: usize) -> Node
@@ -29,37 +28,12 @@ pub fn node(nodes: &[u32], i: usize) -> Node
     }
 }
 
-// Messages and entries hold nodes.
-pub fn nests(kind: u32) -> bool
-    ensures { result ≡ scope.nests kind }
+// Where the root ends: the table's length in nodes.
+pub fn table_end(nodes: &[u32]) -> usize
+    requires { 5 ≤ length nodes.now }
+    ensures { result ≡ table.table_end nodes.now }
 {
-    if kind == words::MESSAGE {
-        return true;
-    }
-    kind == words::ENTRY
-}
-
-// Kinds 11 to 13.
-pub fn is_unknown(kind: u32) -> bool
-    ensures { result ≡ table.is_unknown kind }
-{
-    if kind < words::UNKNOWN_U32 {
-        return false;
-    }
-    kind <= words::UNKNOWN_BYTES
-}
-
-// Strings, bytes and unknown bytes.
-pub fn is_run(kind: u32) -> bool
-    ensures { result ≡ table.is_run kind }
-{
-    if kind == words::STRING {
-        return true;
-    }
-    if kind == words::BYTES {
-        return true;
-    }
-    kind == words::UNKNOWN_BYTES
+    node(nodes, 0).end as usize
 }
 
 // A field of a message: a map field asks for an entry of its own.
@@ -99,29 +73,25 @@ fn want_in(field: Field, i: usize) -> Want
 }
 
 // What the field `i` of the scope inside `w` asks for.
-pub fn want(image: &[u8], layout: Layout, w: Want, i: usize) -> Want
-    requires { Known image.now layout × There image.now (scope.within w) × Inside image.now (scope.within w) i }
-    ensures { result ≡ scope.want image.now (scope.within w) i }
+pub fn want(schema: &Schema, w: Want, i: usize) -> Want
+    requires { There schema.now.image.now (scope.within w) × Inside schema.now.image.now (scope.within w) i }
+    ensures { result ≡ scope.want schema.now.image.now (scope.within w) i }
 {
     if w.kind == kinds::ENTRY {
-        return want_in(records::field(image, layout, w.reference), i);
+        return want_in(schema.field(w.reference), i);
     }
-    want_of(i, records::field(image, layout, i))
+    want_of(i, schema.field(i))
 }
 
-// The field is one of the scope's.
-pub fn has_field(image: &[u8], layout: Layout, w: Want, i: usize) -> bool
-    requires { Known image.now layout × There image.now (scope.within w) }
-    ensures { result ≡ scope.has_field image.now (scope.within w) i }
+// The fields of the scope inside `w`: those of its message, or an entry's key and value.
+pub fn fields_of(schema: &Schema, w: Want) -> Span
+    requires { There schema.now.image.now (scope.within w) }
+    ensures { FieldsAre schema.now.image.now (scope.within w) result }
 {
     if w.kind == kinds::ENTRY {
-        return i < 2;
+        return Span { first: 0, count: 2 };
     }
-    let run = records::message(image, w.reference);
-    if i < run.first {
-        return false;
-    }
-    i - run.first < run.count
+    schema.message(w.reference)
 }
 
 // What lies inside the root.
@@ -133,31 +103,4 @@ pub fn root_want(root: usize) -> Want
         reference: root,
         field: 0,
     }
-}
-
-// Where a node's values stand in print: a field's index, or 4,096 and the number of an unknown field.
-pub fn rank(n: Node) -> usize
-    ensures { result ≡ live.rank_of n }
-{
-    if is_unknown(n.kind) {
-        return FIRST_UNKNOWN + n.field as usize;
-    }
-    n.field as usize
-}
-
-// A number of 64 bits.
-pub fn number(n: Node) -> u64
-    ensures { result ≡ table.number_of n }
-{
-    (n.high as u64) * 4294967296 + n.low as u64
-}
-
-// The bytes of a string or of bytes, as a part of the pool.
-pub fn run(pool: &[u8], n: Node) -> &[u8]
-    requires { n.high + n.low ≤ length pool.now }
-    ensures { result.now ≡ table.run_of pool.now n }
-{
-    let start = n.high as usize;
-    let end = start + n.low as usize;
-    &pool[start..end]
 }

@@ -3,92 +3,69 @@
 #![tactic(auto)]
 
 ghost use Rattle.std.specs.Prelude.{◌≡◌, ◌≤◌, ◌<◌, length};
-ghost use Rattle.definitions.specs.Refusals.{most_text, unplaced};
+ghost use Rattle.definitions.specs.Refusals.{most_text};
 ghost use Rattle.definitions.specs.Reading.{node_room};
-ghost use Rattle.records.specs.Known.{Known};
-ghost use Rattle.parse.specs.Whole.{read_of, refusal_of, fitted_read, fitted_nodes, fitted_pool};
+ghost use Rattle.parse.specs.Whole.{read_of, fitted_read, fitted_nodes, fitted_pool};
 ghost use Rattle.definitions.specs.Image.{message_count};
 
 use bodies::read_root;
+use definitions::Refused;
 use definitions::limits::{MOST_NODES, NODE_WORDS};
-use definitions::{Place, kinds, refusals};
-use leaves::{Answer, put_body};
-use records::Layout;
+use definitions::refusals::Refusal;
+use leaves::{Source, put_body};
+use lexer::ClassTable;
+use nodes::root_want;
+use records::Schema;
+use strings::Escapes;
 
-// What reading a whole text gives: how many nodes and pool bytes were made, or a refusal's number and place.
+// How many nodes and pool bytes reading makes.
 #[derive(Clone, Copy)]
-pub enum Read {
-    Made(usize, usize),
-    No(u8, Place),
-}
-
-// No place in the text, but the number that goes with a refusal (02 §1).
-pub fn unplaced(n: usize) -> Place
-    ensures { result ≡ unplaced n }
-{
-    Place {
-        offset: n,
-        line: 0,
-        column: 0,
-    }
+pub struct Made {
+    pub nodes: usize,
+    pub bytes: usize,
 }
 
 // The nodes that so many words hold.
 fn node_room(words: usize) -> usize
     ensures { result ≡ node_room words }
 {
-    let room = words / NODE_WORDS;
-    if MOST_NODES < room { MOST_NODES } else { room }
+    (words / NODE_WORDS).min(MOST_NODES)
 }
 
 // A whole text: the first pass counts and finds the first fault, over empty parts of the table and the pool; the second stores.
 pub fn read_text(
-    image: &[u8],
-    layout: Layout,
+    schema: &Schema,
     root: usize,
-    s: &[u8],
+    text: &[u8],
     nodes: &mut [u32],
     pool: &mut [u8],
-) -> Read
-    requires { Known image.now layout × (root < message_count image.now) × (length s.now ≤ most_text) }
-    ensures answer { result ≡ read_of (fitted_read image.now root s.now (length nodes.old) (length pool.old)) }
-    ensures table { nodes.new ≡ fitted_nodes image.now root s.now nodes.old (length pool.old) }
-    ensures bytes { pool.new ≡ fitted_pool image.now root s.now (length nodes.old) pool.old }
+) -> Result<Made, Refused>
+    requires { (root < message_count schema.now.image.now) × (length text.now ≤ most_text) }
+    ensures answer { result ≡ read_of (fitted_read schema.now.image.now root text.now (length nodes.old) (length pool.old)) }
+    ensures table { nodes.new ≡ fitted_nodes schema.now.image.now root text.now nodes.old (length pool.old) }
+    ensures bytes { pool.new ≡ fitted_pool schema.now.image.now root text.now (length nodes.old) pool.old }
 {
-    let table = lexer::classes::table();
-    let escape = strings::escapes();
-    let counted = read_root(
-        s,
-        image,
-        layout,
-        &table,
-        &escape,
-        root,
-        &mut nodes[..0],
-        &mut pool[..0],
-    );
-    let Answer::Done(next, _) = counted else {
-        return refusal(counted);
+    let table = ClassTable::new();
+    let letters = Escapes::new();
+    let source = Source {
+        text,
+        schema: *schema,
+        table: &table,
+        letters: &letters,
     };
-    let n = next.node;
-    let b = next.byte;
-    if node_room(nodes.len()) < n {
-        return Read::No(refusals::NODES_SHORT, unplaced(n));
+    let counted = read_root(&source, root, &mut nodes[..0], &mut pool[..0])?;
+    let made = Made {
+        nodes: counted.spot.node,
+        bytes: counted.spot.byte,
+    };
+    if node_room(nodes.len()) < made.nodes {
+        return Err(Refusal::NodesShort.unplaced(made.nodes));
     }
-    if pool.len() < b {
-        return Read::No(refusals::POOL_SHORT, unplaced(b));
+    if pool.len() < made.bytes {
+        return Err(Refusal::PoolShort.unplaced(made.bytes));
     }
-    read_root(s, image, layout, &table, &escape, root, nodes, pool);
-    put_body(nodes, 0, kinds::MESSAGE, 0, n);
-    Read::Made(n, b)
-}
-
-// A refusal, passed on.
-fn refusal(a: Answer) -> Read
-    ensures { result ≡ refusal_of a }
-{
-    match a {
-        Answer::No(why, at) => Read::No(why, at),
-        Answer::Done(q, _) => Read::Made(q.node, q.byte),
-    }
+    // It ends as the first pass did.
+    let _ = read_root(&source, root, nodes, pool);
+    put_body(nodes, 0, root_want(root), made.nodes);
+    Ok(made)
 }

@@ -116,6 +116,9 @@ module _ (s : List ℕ) (good : accepted s ≡ true) where
 pub known-placed : {s : List ℕ} {l : Layout} → Known s l → Placed s l
 known-placed {s} {l} k = record { right = k.right; whole = (accepted-header s k.good).whole }
 
+pub known-header : {s : List ℕ} {l : Layout} → Known s l → 8 ≤ length s
+known-header {s} k = (accepted-header s k.good).long
+
 -- ---- a good name, field or value
 
 pub record Name (s : List ℕ) (start count : ℕ) : Type 0 where
@@ -172,6 +175,13 @@ module _ (s : List ℕ) (good : accepted s ≡ true) where
   pub member-has : (i : ℕ) → i < value_count s → GoodMember s i
   member-has i h = member-parts s i (member-good s good i h)
 
+-- the name of a field and of an enum value lies inside the name bytes
+pub known-field_name : {s : List ℕ} {l : Layout} → Known s l → (i : ℕ) → i < field_count s → (field s i).start + (field s i).length ≤ name_count s
+known-field_name {s} k i h = (field-has s k.good i h).name.inside
+
+pub known-member_name : {s : List ℕ} {l : Layout} → Known s l → (i : ℕ) → i < value_count s → (member s i).start + (member s i).length ≤ name_count s
+known-member_name {s} k i h = (member-has s k.good i h).name.inside
+
 -- ---- a good type and key
 
 pub reference-enum : (s : List ℕ) (f : Field) → type_good s f ≡ true → f.kind ≡ 8 → f.reference < enum_count s
@@ -214,6 +224,17 @@ key-range f e m =
 pub key-none : (f : Field) → key_good f ≡ true → is_map f ≡ false → f.key ≡ 0
 key-none f e m = eqb-true f.key 0 (simp m at e)
 
+-- what is known of an accepted image
+pub ruleset known_steps = (known-placed, known-field_name, known-member_name)
+
+-- ---- a run that was read from an accepted image
+
+pub known-message : {s : List ℕ} {l : Layout} → Known s l → (m : ℕ) → m < message_count s → {run : Span} → run ≡ message s m → run.first + run.count ≤ field_count s
+known-message {s} k m h e = rw e (message-inside s k.good m h)
+
+pub known-enumeration : {s : List ℕ} {l : Layout} → Known s l → (m : ℕ) → m < enum_count s → {run : Span} → run ≡ enumeration s m → run.first + run.count ≤ value_count s
+known-enumeration {s} k m h e = rw e (enum-inside s k.good m h)
+
 -- ---- before all of the rule is known
 
 pub fields-name : {s : List ℕ} {l : Layout} → Fields s l → (i : ℕ) → i < field_count s → (field s i).start + (field s i).length ≤ name_count s
@@ -227,6 +248,8 @@ fields-run {s} p = running-inside (message s) (message_count s) (field_count s) 
 
 pub members_run : {s : List ℕ} {l : Layout} → Members s l → (e : ℕ) → e < enum_count s → (enumeration s e).first + (enumeration s e).count ≤ value_count s
 members_run {s} p = running-inside (enumeration s) (enum_count s) (value_count s) p.runs
+
+pub ruleset parts_steps = (fields-name, members-name, fields-run, members_run)
 
 -- ---- what a lookup finds
 

@@ -1,11 +1,10 @@
 -- An image's layout, what is known of an image and its layout, and what a lookup finds.
+use Rattle.std.specs.Prelude as code
 use Rattle.std.specs.Prelude.{◌≡◌, ℕ, true, List, length}
 use Rattle.std.proofs.Math.Option.{Option, none, some}
 use Rattle.definitions.specs.Basics.{all}
 use Rattle.definitions.specs.Image.{message_count, field_count, enum_count, value_count, fields_at, enums_at, values_at, names_at, image_length, message, enumeration, running, field_good, member_good, accepted}
 use Rattle.records.specs.declared.Layout.{Layout}
-use Rattle.records.specs.declared.Found.{Found}
-use Rattle.records.specs.declared.Found.TheVariants as found
 
 unfoldable pub layout_of : List ℕ → Layout
 layout_of s = record { fields = fields_at s; enums = enums_at s; values = values_at s; names = names_at s }
@@ -31,7 +30,7 @@ pub record Known (s : List ℕ) (l : Layout) : Type 0 where
   pub right : l ≡ layout_of s
   pub good : accepted s ≡ true
 
--- an index, or none
-abbrev pub found_of : Option ℕ → Found
-found_of none = found.Nothing
-found_of (some i) = found.At i
+-- what the definitions find, as the code's Option
+abbrev pub option_of : Option ℕ → code.Option ℕ
+option_of none = code.None
+option_of (some i) = code.Some i

@@ -4,12 +4,15 @@
 
 mod names;
 mod records;
+mod schema;
+mod tables;
 
-pub use names::{field_name, member_name, name, same};
+pub use names::same;
 pub use records::{
-    enum_count, enumeration, field, field_count, field_zero, layout_of, member, member_zero,
-    message, message_count, name_count, span_at, value_count,
+    enum_count, field_count, layout_of, message_count, name_count, span_at, value_count,
 };
+pub use schema::Schema;
+pub use tables::Tables;
 
 // The bytes of the header, of a message or an enum, of a field, and of an enum value.
 pub const HEADER: usize = 8;
@@ -27,11 +30,4 @@ pub struct Layout {
     pub enums: usize,
     pub values: usize,
     pub names: usize,
-}
-
-// The index that a lookup finds.
-#[derive(Clone, Copy)]
-pub enum Found {
-    At(usize),
-    Nothing,
 }

@@ -1,7 +1,7 @@
 // The header's counts, the layout that they give, and the records.
-ghost use Rattle.std.specs.Prelude.{◌≡◌, ◌+◌, ◌≤◌, ◌<◌, length, drop};
+ghost use Rattle.std.specs.Prelude.{◌≡◌, ◌+◌, ◌≤◌, length, drop};
 ghost use Rattle.definitions.specs.Image as spec;
-ghost use Rattle.records.specs.Known.{layout_of, Placed};
+ghost use Rattle.records.specs.Known.{layout_of};
 
 use crate::{FIELD, HEADER, Layout, RUN, VALUE};
 use bits::{bits, cut, load};
@@ -9,6 +9,7 @@ use definitions::{Field, Member, Span};
 
 // ---- header, 64 bits: form 4, messages 8, fields 12, enums 8, enum values 12, name bytes 16, zero 4
 
+#[tactic(auto, unfolding(definitions::specs::Image::message_count))]
 pub fn message_count(image: &[u8]) -> usize
     requires { 8 ≤ length image.now }
     ensures { result ≡ spec.message_count image.now }
@@ -16,6 +17,7 @@ pub fn message_count(image: &[u8]) -> usize
     bits(image, 4, 8) as usize
 }
 
+#[tactic(auto, unfolding(definitions::specs::Image::field_count))]
 pub fn field_count(image: &[u8]) -> usize
     requires { 8 ≤ length image.now }
     ensures { result ≡ spec.field_count image.now }
@@ -23,6 +25,7 @@ pub fn field_count(image: &[u8]) -> usize
     bits(image, 12, 12) as usize
 }
 
+#[tactic(auto, unfolding(definitions::specs::Image::enum_count))]
 pub fn enum_count(image: &[u8]) -> usize
     requires { 8 ≤ length image.now }
     ensures { result ≡ spec.enum_count image.now }
@@ -30,6 +33,7 @@ pub fn enum_count(image: &[u8]) -> usize
     bits(image, 24, 8) as usize
 }
 
+#[tactic(auto, unfolding(definitions::specs::Image::value_count))]
 pub fn value_count(image: &[u8]) -> usize
     requires { 8 ≤ length image.now }
     ensures { result ≡ spec.value_count image.now }
@@ -37,6 +41,7 @@ pub fn value_count(image: &[u8]) -> usize
     bits(image, 32, 12) as usize
 }
 
+#[tactic(auto, unfolding(definitions::specs::Image::name_count))]
 pub fn name_count(image: &[u8]) -> usize
     requires { 8 ≤ length image.now }
     ensures { result ≡ spec.name_count image.now }
@@ -45,6 +50,7 @@ pub fn name_count(image: &[u8]) -> usize
 }
 
 // The records stand in the header's order: messages of 3 bytes, fields of 9, enums of 3, enum values of 7; then the name bytes.
+#[tactic(auto, using(crate::proofs::Room::counts_small), unfolding(definitions::specs::Image::messages_at, definitions::specs::Image::fields_at, definitions::specs::Image::enums_at, definitions::specs::Image::values_at, definitions::specs::Image::names_at, crate::specs::Known::layout_of))]
 pub fn layout_of(image: &[u8]) -> Layout
     requires { 8 ≤ length image.now }
     ensures { result ≡ layout_of image.now }
@@ -62,6 +68,8 @@ pub fn layout_of(image: &[u8]) -> Layout
 
 // ---- records
 
+// Kept: `as`, since a part of so few bits always fits; a `try_from` would be a refusal that cannot come.
+
 // A message or an enum, 24 bits: first 12, count 12.
 pub fn span_at(image: &[u8], at: usize) -> Span
     requires { at + 3 ≤ length image.now }
@@ -75,7 +83,7 @@ pub fn span_at(image: &[u8], at: usize) -> Span
 }
 
 // A field, 72 bits: name start 16, name length 6, number 29, label 2, key type 4, type 4, reference 8, zero 3.
-fn field_at(image: &[u8], at: usize) -> Field
+pub(crate) fn field_at(image: &[u8], at: usize) -> Field
     requires { at + 9 ≤ length image.now }
     ensures { result ≡ spec.field_of (drop at image.now) }
 {
@@ -92,7 +100,7 @@ fn field_at(image: &[u8], at: usize) -> Field
 }
 
 // An enum value, 56 bits: name start 16, name length 6, number 32, zero 2.
-fn member_at(image: &[u8], at: usize) -> Member
+pub(crate) fn member_at(image: &[u8], at: usize) -> Member
     requires { at + 7 ≤ length image.now }
     ensures { result ≡ spec.member_of (drop at image.now) }
 {
@@ -102,49 +110,4 @@ fn member_at(image: &[u8], at: usize) -> Member
         length: cut(word, 34, 6) as usize,
         number: cut(word, 2, 32) as u32,
     }
-}
-
-// The zero bits at the end of a field's record, and of an enum value's.
-pub fn field_zero(image: &[u8], at: usize) -> u64
-    requires { at + 9 ≤ length image.now }
-    ensures { result ≡ spec.field_zero (drop at image.now) }
-{
-    cut(load(image, at + 8, 1), 0, 3)
-}
-
-pub fn member_zero(image: &[u8], at: usize) -> u64
-    requires { at + 7 ≤ length image.now }
-    ensures { result ≡ spec.member_zero (drop at image.now) }
-{
-    cut(load(image, at + 6, 1), 0, 2)
-}
-
-// ---- records by index
-
-pub fn message(image: &[u8], index: usize) -> Span
-    requires { (length image.now ≡ spec.image_length image.now) × (index < spec.message_count image.now) }
-    ensures { result ≡ spec.message image.now index }
-{
-    span_at(image, HEADER + RUN * index)
-}
-
-pub fn enumeration(image: &[u8], layout: Layout, index: usize) -> Span
-    requires { Placed image.now layout × (index < spec.enum_count image.now) }
-    ensures { result ≡ spec.enumeration image.now index }
-{
-    span_at(image, layout.enums + RUN * index)
-}
-
-pub fn field(image: &[u8], layout: Layout, index: usize) -> Field
-    requires { Placed image.now layout × (index < spec.field_count image.now) }
-    ensures { result ≡ spec.field image.now index }
-{
-    field_at(image, layout.fields + FIELD * index)
-}
-
-pub fn member(image: &[u8], layout: Layout, index: usize) -> Member
-    requires { Placed image.now layout × (index < spec.value_count image.now) }
-    ensures { result ≡ spec.member image.now index }
-{
-    member_at(image, layout.values + VALUE * index)
 }

@@ -1,190 +1,155 @@
 // The words of a call, each ended by a zero byte: the command, files, and options wherever they stand.
-use records::same;
-use std::num::wrapping_add_usize;
-use streams::number::Number;
-use streams::{line, number};
+use streams::number;
 
-// The commands, by their numbers; one more is none of them.
-pub const CHECK: usize = 0;
+#[derive(Clone, Copy, PartialEq, Eq)]
+pub enum Command {
+    Check,
+    Print,
+    Compact,
+    Fleet,
+    Carry,
+    Show,
+    Help,
+    Version,
+    Script,
+}
 
-pub const PRINT: usize = 1;
+impl Command {
+    pub fn from_word(word: &[u8]) -> Option<Command> {
+        match word {
+            b"check" => Some(Command::Check),
+            b"print" => Some(Command::Print),
+            b"compact" => Some(Command::Compact),
+            b"fleet" => Some(Command::Fleet),
+            b"carry" => Some(Command::Carry),
+            b"show" => Some(Command::Show),
+            b"help" => Some(Command::Help),
+            b"version" => Some(Command::Version),
+            b"script" => Some(Command::Script),
+            _ => None,
+        }
+    }
+}
 
-pub const COMPACT: usize = 2;
-
-pub const FLEET: usize = 3;
-
-pub const CARRY: usize = 4;
-
-pub const SHOW: usize = 5;
-
-pub const HELP: usize = 6;
-
-pub const VERSION: usize = 7;
-
-pub const COMMANDS: usize = 9;
-
-// The options, likewise; the last three take the next word along.
-const REQUIRED: usize = 0;
-
-const ROOT: usize = 1;
-
-const VALUES: usize = 2;
-
-const OPTIONS: usize = 4;
-
-// What was asked, as far as the words before `next` tell: the command; how many of the words are files, and where the last of those
-// lies; the root's name, if one is named; how many values and bytes the logger has room for; whether required fields are asked for;
-// whether a word can't be understood. `option` is one that waits for its word.
+// The options that take the next word along.
 #[derive(Clone, Copy)]
-pub struct Asked {
-    pub command: usize,
+enum Valued {
+    Root,
+    Values,
+    Bytes,
+}
+
+// What was asked, as far as the words so far tell: the command; how many of the words are files; the root's name, if one is named; how
+// many values and bytes the logger has room for, if that is told; whether required fields are asked for; whether a word can't be
+// understood. `waiting` is an option that waits for its word.
+#[derive(Clone, Copy)]
+pub struct Asked<'a> {
+    call: &'a [u8],
     pub is_script: bool,
-    next: usize,
-    option: usize,
+    pub command: Option<Command>,
+    waiting: Option<Valued>,
     pub files: usize,
-    last: usize,
-    root: usize,
-    pub has_root: bool,
     has_input: bool,
-    pub has_limits: bool,
-    pub values: usize,
-    pub bytes: usize,
+    pub root: Option<&'a [u8]>,
+    pub values: Option<usize>,
+    pub bytes: Option<usize>,
     pub is_required: bool,
     pub is_wrong: bool,
 }
 
-// The index of a word among pieces that zero bytes end, of which there are `count`; `count` where it isn't there.
-fn index_of(pieces: &[u8], count: usize, word: &[u8]) -> usize {
-    let mut k = 0;
-    while k < count {
-        if same(line::nth(pieces, k), word) {
-            return k;
+impl<'a> Asked<'a> {
+    // Behind the command.
+    fn begun(call: &'a [u8], command: &[u8], is_script: bool) -> Asked<'a> {
+        Asked {
+            call,
+            is_script,
+            command: Command::from_word(command),
+            waiting: None,
+            files: 0,
+            has_input: false,
+            root: None,
+            values: None,
+            bytes: None,
+            is_required: false,
+            is_wrong: false,
         }
-        k += 1;
     }
-    k
-}
 
-pub fn command_of(word: &[u8]) -> usize {
-    index_of(
-        b"check\0print\0compact\0fleet\0carry\0show\0help\0version\0script\0",
-        COMMANDS,
-        word,
-    )
-}
-
-// The word that begins at `start`.
-fn word_at<'a>(call: &'a [u8], start: usize) -> &'a [u8] {
-    line::part(call, start, line::seek(call, start, 0))
-}
-
-// Where the word after the one at `start` begins.
-fn after(call: &[u8], start: usize) -> usize {
-    wrapping_add_usize(line::seek(call, start, 0), 1)
-}
-
-// Behind the command.
-fn begun(call: &[u8], is_script: bool) -> Asked {
-    Asked {
-        command: command_of(word_at(call, 0)),
-        is_script,
-        next: after(call, 0),
-        option: OPTIONS,
-        files: 0,
-        last: 0,
-        root: 0,
-        has_root: false,
-        has_input: false,
-        has_limits: false,
-        values: usize::MAX,
-        bytes: usize::MAX,
-        is_required: false,
-        is_wrong: false,
+    // All that a call asks.
+    pub fn new(call: &'a [u8], is_script: bool) -> Asked<'a> {
+        let mut words = call.split(|b| *b == 0);
+        let command = words.next().unwrap_or(&[]);
+        let mut asked = Asked::begun(call, command, is_script);
+        for word in words {
+            asked.add(word);
+        }
+        asked.is_wrong = asked.is_wrong || asked.waiting.is_some();
+        asked
     }
-}
 
-// With the word of an option that waited for it.
-fn with_value(asked: Asked, word: &[u8]) -> Asked {
-    let mut next = asked;
-    next.option = OPTIONS;
-    if asked.option == ROOT {
-        next.root = asked.next;
-        next.has_root = true;
-        next.is_wrong = asked.is_wrong || word.len() == 0;
-        return next;
+    // The file of number k, counted from 0; an empty word where there are fewer.
+    pub fn file(&self, k: usize) -> &'a [u8] {
+        let mut asked = Asked::begun(self.call, &[], self.is_script);
+        for word in self.call.split(|b| *b == 0).skip(1) {
+            asked.add(word);
+            if asked.files > k {
+                return word;
+            }
+        }
+        &[]
     }
-    let Number::Is(n) = number::decimal(word) else {
-        next.is_wrong = true;
-        return next;
-    };
-    next.has_limits = true;
-    if asked.option == VALUES {
-        next.values = n;
-    } else {
-        next.bytes = n;
+
+    // Whether it is told how much room the logger has.
+    pub fn has_limits(&self) -> bool {
+        self.values.is_some() || self.bytes.is_some()
     }
-    next
-}
 
-fn with_option(asked: Asked, word: &[u8]) -> Asked {
-    let mut next = asked;
-    let option = index_of(b"--required\0--root\0--values\0--bytes\0", OPTIONS, word);
-    if option == REQUIRED {
-        next.is_required = true;
-    } else if option == OPTIONS {
-        next.is_wrong = true;
-    } else {
-        next.option = option;
+    // One word more. An empty word is none.
+    fn add(&mut self, word: &'a [u8]) {
+        if let Some(option) = self.waiting {
+            self.waiting = None;
+            self.add_value(option, word);
+        } else if word.starts_with(b"--") {
+            self.add_option(word);
+        } else if !word.is_empty() {
+            self.add_file(word);
+        }
     }
-    next
-}
 
-// With one word more. Standard input, `-`, can be one file and no more; an empty word is none.
-fn step(call: &[u8], asked: Asked) -> Asked {
-    let word = word_at(call, asked.next);
-    let mut next = asked;
-    if asked.option != OPTIONS {
-        next = with_value(asked, word);
-    } else if same(line::front(word, 2), b"--") {
-        next = with_option(asked, word);
-    } else if word.len() > 0 {
-        let is_input = same(word, b"-");
-        next.files = wrapping_add_usize(asked.files, 1);
-        next.last = asked.next;
-        next.is_wrong = asked.is_wrong || (is_input && asked.has_input);
-        next.has_input = is_input || asked.has_input;
+    fn add_option(&mut self, word: &[u8]) {
+        match word {
+            b"--required" => self.is_required = true,
+            b"--root" => self.waiting = Some(Valued::Root),
+            b"--values" => self.waiting = Some(Valued::Values),
+            b"--bytes" => self.waiting = Some(Valued::Bytes),
+            _ => self.is_wrong = true,
+        }
     }
-    next.next = after(call, asked.next);
-    next
-}
 
-// What was asked up to the file of number `most`.
-fn up_to(call: &[u8], is_script: bool, most: usize) -> Asked {
-    let mut asked = begun(call, is_script);
-    let mut turns = call.len();
-    while turns > 0 && asked.next < call.len() && asked.files < most {
-        asked = step(call, asked);
-        turns -= 1;
+    // The word of an option that waited for it.
+    fn add_value(&mut self, option: Valued, word: &'a [u8]) {
+        let is_good = match option {
+            Valued::Root => {
+                self.root = Some(word);
+                !word.is_empty()
+            }
+            Valued::Values => {
+                self.values = number::decimal(word);
+                self.values.is_some()
+            }
+            Valued::Bytes => {
+                self.bytes = number::decimal(word);
+                self.bytes.is_some()
+            }
+        };
+        self.is_wrong = self.is_wrong || !is_good;
     }
-    asked
-}
 
-pub fn all_of(call: &[u8], is_script: bool) -> Asked {
-    let mut asked = up_to(call, is_script, usize::MAX);
-    asked.is_wrong = asked.is_wrong || asked.option != OPTIONS;
-    asked
-}
-
-// The file of number k, counted from 0.
-pub fn file<'a>(call: &'a [u8], k: usize) -> &'a [u8] {
-    let found = up_to(call, false, wrapping_add_usize(k, 1));
-    word_at(call, found.last)
-}
-
-// The root's name, empty where none is named.
-pub fn root<'a>(call: &'a [u8], asked: Asked) -> &'a [u8] {
-    if asked.has_root {
-        return word_at(call, asked.root);
+    // Standard input, `-`, can be one file and no more.
+    fn add_file(&mut self, word: &[u8]) {
+        let is_input = word == b"-".as_slice();
+        self.files = self.files.saturating_add(1);
+        self.is_wrong = self.is_wrong || is_input && self.has_input;
+        self.has_input = is_input || self.has_input;
     }
-    line::front(call, 0)
 }

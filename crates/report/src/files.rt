@@ -1,21 +1,22 @@
 // Files, read into a room: as much of them as it holds.
 use crate::call::Asked;
-use crate::verdict::Told;
-use crate::{call, say, verdict};
-use records::same;
+use crate::failure::Failure;
 use std::io::Read;
-use std::{fs, io};
+use std::{fmt, fs, io};
 use streams::line;
-use streams::out::Out;
 
-// How many bytes were read, or why none can be.
+// Why a file can't be read.
 #[derive(Clone, Copy)]
-enum Got {
-    Bytes(usize),
-    Failed(usize),
+pub enum Reason {
+    NoFile,
+    Directory,
+    NoLeave,
+    NoInput,
+    Other,
 }
 
 // The system's numbers for what has a sentence of its own.
+// Kept: numbers, since no kind of the library's errors stands for EBADF.
 const ENOENT: i32 = 2;
 
 const EBADF: i32 = 9;
@@ -24,104 +25,67 @@ const EACCES: i32 = 13;
 
 const EISDIR: i32 = 21;
 
-// Why a file can't be read: the place of its sentence among those of `load`.
-const NO_FILE: usize = 0;
-
-const DIRECTORY: usize = 1;
-
-const NO_LEAVE: usize = 2;
-
-const NO_INPUT: usize = 3;
-
-const OTHER: usize = 4;
-
-// What is there, or how much of the buffer says that nothing can be read.
-#[derive(Clone, Copy)]
-pub enum Loaded {
-    Bytes(usize),
-    Not(usize),
-}
-
-// Which of the reasons below it is.
-fn reason(error: io::Error) -> usize {
-    match error.raw_os_error() {
-        Some(ENOENT) => NO_FILE,
-        Some(EISDIR) => DIRECTORY,
-        Some(EACCES) => NO_LEAVE,
-        Some(EBADF) => NO_INPUT,
-        _ => OTHER,
+impl From<io::Error> for Reason {
+    fn from(error: io::Error) -> Reason {
+        match error.raw_os_error() {
+            Some(ENOENT) => Reason::NoFile,
+            Some(EISDIR) => Reason::Directory,
+            Some(EACCES) => Reason::NoLeave,
+            Some(EBADF) => Reason::NoInput,
+            _ => Reason::Other,
+        }
     }
 }
 
-// One read into the room from n on. How many bytes there are then, the same at the end of the file.
-fn read_on<R: Read>(from: &mut R, room: &mut [u8], n: usize) -> Got {
-    let start = line::least(n, room.len());
-    match from.read(&mut room[start..]) {
-        Ok(count) => Got::Bytes(start + line::least(count, room.len() - start)),
-        Err(error) => Got::Failed(reason(error)),
+impl fmt::Display for Reason {
+    fn fmt<W: fmt::Write>(&self, f: &mut fmt::Formatter<W>) -> fmt::Result {
+        f.write_str(match self {
+            Reason::NoFile => "no such file",
+            Reason::Directory => "a directory, not a file",
+            Reason::NoLeave => "it may not be read",
+            Reason::NoInput => "standard input can't be read here",
+            Reason::Other => "it can't be read",
+        })
     }
 }
 
-// Nothing says that a file ends, so the turns are counted down: each reads a byte or is the last.
-fn fill<R: Read>(from: &mut R, room: &mut [u8]) -> Got {
+// Nothing says that a file ends, so the turns are counted: each reads a byte or is the last.
+fn fill<R: Read>(from: &mut R, room: &mut [u8]) -> Result<usize, Reason> {
     let mut n = 0;
-    let mut turns = room.len();
-    while turns > 0 {
-        let got = read_on(from, room, n);
-        let Got::Bytes(next) = got else {
-            return got;
-        };
-        if next == n {
-            return Got::Bytes(n);
+    for _ in 0..room.len() {
+        let count = from.read(&mut room[n..])?;
+        if count == 0 {
+            break;
         }
-        n = next;
-        turns -= 1;
+        n += count;
     }
-    Got::Bytes(n)
+    Ok(n)
 }
 
-// The file at a path of text.
-fn open(rt: HostRuntime, path: &str, room: &mut [u8]) -> Got {
-    match fs::open(&rt, path) {
-        Ok(mut file) => fill(&mut file, room),
-        Err(error) => Got::Failed(reason(error)),
-    }
-}
-
-// The file at a path; `-` is standard input, but for a script, whose calls stand there.
-fn read(rt: HostRuntime, path: &[u8], room: &mut [u8], is_script: bool) -> Got {
-    if same(path, b"-") {
+// The file at a path, which has to be text; `-` is standard input, but for a script, whose calls stand there.
+fn read(rt: HostRuntime, path: &[u8], room: &mut [u8], is_script: bool) -> Result<usize, Reason> {
+    if path == b"-".as_slice() {
         if is_script {
-            return Got::Failed(NO_INPUT);
+            return Err(Reason::NoInput);
         }
-        let mut input = rt.stdin();
-        return fill(&mut input, room);
+        return fill(&mut rt.stdin(), room);
     }
-    match str::from_utf8(path) {
-        Ok(text) => open(rt, text, room),
-        Err(_) => Got::Failed(OTHER),
-    }
+    let Ok(text) = str::from_utf8(path) else {
+        return Err(Reason::Other);
+    };
+    fill(&mut fs::open(&rt, text)?, room)
 }
 
-// The call's file of number k, or `PATH: no such file`.
-pub fn load(buf: &mut Out, call: &[u8], asked: Asked, k: usize, room: &mut [u8]) -> Loaded {
-    let path = call::file(call, k);
-    match read(buf.rt, path, room, asked.is_script) {
-        Got::Bytes(n) => Loaded::Bytes(n),
-        Got::Failed(reason) => {
-            let why = line::nth(
-                b"no such file\0a directory, not a file\0it may not be read\0standard input can't be read here\0it can't be read\0",
-                reason,
-            );
-            Loaded::Not(say::say(buf, 0, b"@: $\n", path, why, 0, 0))
-        }
-    }
-}
-
-// What a call comes to whose file can't be read.
-pub fn not_loaded(got: Loaded) -> Told {
-    match got {
-        Loaded::Bytes(_) => verdict::wrong(0),
-        Loaded::Not(at) => verdict::wrong(at),
+// The call's file of number k.
+pub fn load<'a, 'r>(
+    rt: HostRuntime,
+    asked: &Asked<'a>,
+    k: usize,
+    room: &'r mut [u8],
+) -> Result<&'r [u8], Failure<'a>> {
+    let path = asked.file(k);
+    match read(rt, path, room, asked.is_script) {
+        Ok(n) => Ok(line::front(room, n)),
+        Err(why) => Err(Failure::Unread(path, why)),
     }
 }

@@ -1,116 +1,89 @@
 // What helps along after a refusal: the known names nearest to the word, or all that there are; a number's range.
-ghost use Rattle.records.specs.Known.{Known};
-
 use crate::place::MOST_COLUMNS;
-use crate::say;
-use definitions::{Span, kinds, refusals};
-use hints::nearest::{NONE, Nearest};
+use definitions::kinds;
+use definitions::refusals::Refusal;
+use hints::catalog::Owner;
+use hints::nearest;
 use hints::scene::Scene;
-use hints::{catalog, nearest};
-use records::Layout;
-use std::num::wrapping_add_usize;
+use records::Schema;
+use std::ops::Range;
 use streams::out::Out;
-use streams::{line, out};
+
+// How many columns `did you mean  or ?` takes.
+const MEANT: usize = 18;
 
 // `did you mean valve_min or valve_mid?`, the second if there is one and the line has room for it.
-fn meant(
-    buf: &mut Out,
-    at: usize,
-    image: &[u8],
-    layout: Layout,
-    is_field: bool,
-    near: Nearest,
-) -> usize
-    requires { Known image.now layout }
-{
-    let first = catalog::name(image, layout, is_field, near.first);
-    let second = catalog::name(image, layout, is_field, near.second);
-    let wide = wrapping_add_usize(wrapping_add_usize(first.len(), second.len()), 18);
-    let is_one = near.second == NONE || MOST_COLUMNS < wide;
-    let template = line::nth(
-        b"did you mean @ or $?\n\0did you mean @?\n\0",
-        if is_one { 1 } else { 0 },
-    );
-    say::say(buf, at, template, first, second, 0, 0)
+fn meant(out: &mut Out, first: &[u8], second: Option<&[u8]>) {
+    out.bytes(b"did you mean ");
+    out.bytes(first);
+    if let Some(second) = second {
+        if first.len().saturating_add(second.len()) <= MOST_COLUMNS - MEANT {
+            out.bytes(b" or ");
+            out.bytes(second);
+        }
+    }
+    out.bytes(b"?\n");
 }
 
 // `known here: a, b, c`, as many as go on a line.
-fn known(buf: &mut Out, at: usize, image: &[u8], layout: Layout, is_field: bool, run: Span) -> usize
-    requires { Known image.now layout }
-{
-    let mut to = out::bytes(buf, at, b"known here:");
-    let mut column = 11;
-    let mut left = run.count;
-    let mut i = run.first;
-    while left > 0 {
-        let word = catalog::name(image, layout, is_field, i);
-        column = wrapping_add_usize(column, wrapping_add_usize(word.len(), 2));
+fn known(out: &mut Out, schema: &Schema, owner: Owner, run: Range<usize>) {
+    out.bytes(b"known here:");
+    let mut column: usize = 11;
+    let mut gap = b" ".as_slice();
+    for i in run {
+        let word = owner.name(schema, i);
+        column = column.saturating_add(word.len()).saturating_add(2);
+        out.bytes(gap);
         if column > MOST_COLUMNS - 4 {
-            return out::bytes(buf, to, b" ..\n");
+            out.bytes(b"..\n");
+            return;
         }
-        left -= 1;
-        i = wrapping_add_usize(i, 1);
-        let template = line::nth(b" @\n\0 @,\0", if left > 0 { 1 } else { 0 });
-        to = say::name(buf, to, template, word);
+        out.bytes(word);
+        gap = b", ".as_slice();
     }
-    to
+    out.byte(b'\n');
 }
 
 // The fields of a message, or the values of an enum, that are near; all where none is.
-fn names(
-    buf: &mut Out,
-    at: usize,
-    image: &[u8],
-    layout: Layout,
-    is_field: bool,
-    run: Span,
-    word: &[u8],
-) -> usize
-    requires { Known image.now layout }
-{
-    let near = nearest::near(image, layout, is_field, run, word);
-    if near.first != NONE {
-        return meant(buf, at, image, layout, is_field, near);
+fn names(out: &mut Out, schema: &Schema, owner: Owner, index: usize, word: &[u8]) {
+    let run = owner.run(schema, index);
+    let near = nearest::among(schema, owner, run.start..run.end, word);
+    if let Some(first) = near.first() {
+        let second = near.second().map(|i| owner.name(schema, i));
+        meant(out, owner.name(schema, first), second);
+    } else if run.start < run.end {
+        known(out, schema, owner, run);
     }
-    if run.count == 0 {
-        return at;
+}
+
+// The numbers that a kind takes.
+// Kept: the kind is a number, as definitions' kinds are.
+fn range(kind: u8) -> &'static str {
+    match kind {
+        kinds::I32 => "-2147483648 to 2147483647",
+        kinds::I64 => "-9223372036854775808 to 9223372036854775807",
+        kinds::U32 => "0 to 4294967295",
+        kinds::U64 => "0 to 18446744073709551615",
+        _ => "",
     }
-    known(buf, at, image, layout, is_field, run)
 }
 
 // What helps with a word that was refused where the scene tells.
-pub fn hint(
-    buf: &mut Out,
-    at: usize,
-    image: &[u8],
-    layout: Layout,
-    word: &[u8],
-    no: u8,
-    scene: Scene,
-) -> usize
-    requires { Known image.now layout }
-{
-    let holder = scene.holder;
-    let wanted = scene.wanted;
-    if no == refusals::OVERFLOW {
-        let range = line::nth(
-            b"\0-2147483648 to 2147483647\0-9223372036854775808 to 9223372036854775807\00 to 4294967295\00 to 18446744073709551615\0",
-            wanted.kind as usize,
-        );
-        return say::name(buf, at, b"it takes @\n", range);
-    }
-    let is_field = no == refusals::UNKNOWN_FIELD;
-    if is_field {
-        if holder.kind == kinds::ENTRY {
-            return out::bytes(buf, at, b"an entry has just key and value\n");
+pub fn hint(out: &mut Out, schema: &Schema, word: &[u8], why: Refusal, scene: &Scene) {
+    match (why, scene.holder, scene.wanted) {
+        (Refusal::Overflow, _, wanted) => {
+            let range = wanted.map_or("", |want| range(want.kind));
+            out.print(format_args!("it takes {range}\n"));
         }
-    } else if no != refusals::UNKNOWN_VALUE {
-        return at;
+        (Refusal::UnknownField, Some(holder), _) if holder.kind == kinds::ENTRY => {
+            out.bytes(b"an entry has just key and value\n");
+        }
+        (Refusal::UnknownField, Some(holder), _) => {
+            names(out, schema, Owner::Message, holder.reference, word);
+        }
+        (Refusal::UnknownValue, _, Some(wanted)) => {
+            names(out, schema, Owner::Enum, wanted.reference, word);
+        }
+        _ => (),
     }
-    let run = if is_field {
-        catalog::message(image, layout, holder.reference)
-    } else {
-        catalog::enumeration(image, layout, wanted.reference)
-    };
-    names(buf, at, image, layout, is_field, run, word)
 }

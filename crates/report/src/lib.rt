@@ -2,11 +2,11 @@
 #![tactic(auto)]
 
 pub mod call;
+pub mod failure;
 pub mod files;
 pub mod help;
 mod hint;
 pub mod place;
 pub mod refusal;
 pub mod rooms;
-pub mod say;
 pub mod verdict;

@@ -1,19 +1,16 @@
 // Each refusal, in words that a grower understands: where, which word, its line, and what helps.
-ghost use Rattle.records.specs.Known.{Known};
-
 use crate::call::Asked;
 use crate::place::MOST_COLUMNS;
 use crate::rooms::{POOL_LENGTH, SHOWN_LENGTH};
-use crate::verdict::Told;
-use crate::{call, hint, place, say, verdict};
+use crate::verdict::Verdict;
+use crate::{hint, place};
 use definitions::limits::MOST_NODES;
-use definitions::{Place, kinds, refusals};
+use definitions::refusals::Refusal;
+use definitions::{Refused, kinds};
 use hints::scene;
-use hints::scene::Scene;
-use records::Layout;
-use std::num::{wrapping_add_usize, wrapping_sub_usize};
+use hints::scene::{Phase, Scene};
+use records::Schema;
 use streams::out::Out;
-use streams::{line, out};
 
 // The longest word that is shown, and the longest name.
 const MOST_WORD: usize = 48;
@@ -23,219 +20,210 @@ const MOST_NAME: usize = 63;
 // How many columns ` (refusal 6)` takes.
 const NUMBER: usize = 13;
 
-// Sentences besides those of the refusals' own numbers.
-const BAD_NUMBER: usize = 18;
+// What a sentence's marks stand for: `@` for the word, `$` for what was expected, `#` for what is needed and `&` for what there is.
+#[derive(Clone, Copy)]
+struct Marks<'a> {
+    word: &'a [u8],
+    due: &'a [u8],
+    needed: usize,
+    most: usize,
+}
 
-const NOT_CLOSED: usize = 19;
-
-const ENDS_EARLY: usize = 20;
-
-const ENDS_AT_BOOL: usize = 21;
-
-const BAD_BYTE: usize = 22;
+// The marks of a sentence about a word.
+fn of_word<'a>(word: &'a [u8], due: &'a [u8]) -> Marks<'a> {
+    Marks {
+        word,
+        due,
+        needed: 0,
+        most: 0,
+    }
+}
 
 // A refusal's sentence and ` (refusal 6)`, on a line of its own where the one it is on, of which so many columns are used, has no room.
-// Of a sentence `@` is the word, `$` what was expected, `#` what is needed and `&` what there is.
-fn sentence(
-    buf: &mut Out,
-    at: usize,
-    used: usize,
-    which: usize,
-    a: &[u8],
-    b: &[u8],
-    n: usize,
-    m: usize,
-    no: u8,
-) -> usize {
-    let template = line::nth(
-        b"\0this isn't a schema\0this schema has no such message\0over 1048576 bytes, more than a logger takes\0a character that can't stand here: @\0$ is expected, not @\0unknown field @\0unknown value @\0@ stands twice in one entry\0out of range: @\0true or false is expected, not @\0this text in quotes has a bad escape, or isn't UTF-8\0nested more than 32 levels deep\0values and messages: #, and at most & fit\0bytes of text in quotes: #, and at most & fit\0\0bytes to show: #, and at most & fit\0required field @ is missing\0not a number: @\0this text in quotes isn't closed on its line\0$ is expected, but the file ends\0true or false is expected, but the file ends\0a character that can't stand here\0",
-        which,
-    );
-    let more = wrapping_add_usize(template.len(), wrapping_add_usize(a.len(), b.len()));
-    let wide = wrapping_add_usize(used, wrapping_add_usize(more, NUMBER));
-    let gap = line::nth(b" \0\n  \0", if wide <= MOST_COLUMNS { 0 } else { 1 });
-    let c = out::bytes(buf, at, gap);
-    let d = say::say(buf, c, template, a, b, n, m);
-    say::count(buf, d, b" (refusal #)\n", b, no as usize)
-}
-
-// What reading expected, by the pieces below.
-fn expected(scene: Scene) -> usize {
-    let wanted = scene.wanted;
-    if scene.phase == scene::AT_NAME {
-        return if scene.level == 0 { 0 } else { 1 };
-    }
-    if scene.phase == scene::AFTER_NAME {
-        return if wanted.kind < kinds::MESSAGE { 3 } else { 2 };
-    }
-    let kind = wanted.kind;
-    match kind {
-        kinds::STRING | kinds::BYTES => 4,
-        kinds::ENUM => 5,
-        kinds::U32 | kinds::U64 => 6,
-        _ => 7,
-    }
-}
-
-// Which sentence tells of a word that begins with a byte, 0 at the end of the file, and that can be shown or not.
-fn which(no: u8, first: u8, is_plain: bool) -> usize {
-    if no == refusals::BAD_TOKEN {
-        return match first {
-            b'"' | b'\'' => NOT_CLOSED,
-            b'0'..=b'9' => BAD_NUMBER,
-            _ => if is_plain {
-                refusals::BAD_TOKEN as usize
-            } else {
-                BAD_BYTE
-            },
-        };
-    }
-    if first == 0 {
-        if no == refusals::OTHER_EXPECTED {
-            return ENDS_EARLY;
-        }
-        if no == refusals::NOT_BOOL {
-            return ENDS_AT_BOOL;
+// Kept: a template and its marks, since how wide the sentence gets is told before it is written, and a word is bytes, which no Display has.
+fn sentence(out: &mut Out, used: usize, template: &[u8], marks: Marks, why: Refusal) {
+    let wide = used
+        .saturating_add(template.len())
+        .saturating_add(marks.word.len())
+        .saturating_add(marks.due.len())
+        .saturating_add(NUMBER);
+    out.bytes(if wide <= MOST_COLUMNS {
+        " ".as_bytes()
+    } else {
+        "\n  ".as_bytes()
+    });
+    for c in template {
+        match *c {
+            b'@' => out.bytes(marks.word),
+            b'$' => out.bytes(marks.due),
+            b'#' => out.print(marks.needed),
+            b'&' => out.print(marks.most),
+            other => out.byte(other),
         }
     }
-    no as usize
+    let number = why.number();
+    out.print(format_args!(" (refusal {number})\n"));
+}
+
+// What reading expected.
+fn expected(scene: &Scene) -> &'static str {
+    let kind = scene.wanted.map_or(0, |want| want.kind);
+    match scene.phase {
+        Phase::AtName if scene.level == 0 => "a field's name",
+        Phase::AtName => "a name or its closer",
+        Phase::AfterName if kind < kinds::MESSAGE => "a colon",
+        Phase::AfterName => "{",
+        Phase::AfterColon | Phase::AfterMinus => match kind {
+            kinds::STRING | kinds::BYTES => "text in quotes",
+            kinds::ENUM => "a value's name",
+            kinds::U32 | kinds::U64 => "a number from 0 up",
+            _ => "a whole number",
+        },
+    }
+}
+
+// A refusal's sentence; none of a command's refusals is about a table or a node's value.
+fn plain_sentence(why: Refusal) -> &'static str {
+    match why {
+        Refusal::BadSchema => "this isn't a schema",
+        Refusal::NoMessage => "this schema has no such message",
+        Refusal::TextTooLong => "over 1048576 bytes, more than a logger takes",
+        Refusal::BadToken => "a character that can't stand here: @",
+        Refusal::OtherExpected => "$ is expected, not @",
+        Refusal::UnknownField => "unknown field @",
+        Refusal::UnknownValue => "unknown value @",
+        Refusal::Twice => "@ stands twice in one entry",
+        Refusal::Overflow => "out of range: @",
+        Refusal::NotBool => "true or false is expected, not @",
+        Refusal::BadString => "this text in quotes has a bad escape, or isn't UTF-8",
+        Refusal::TooDeep => "nested more than 32 levels deep",
+        Refusal::NodesShort => "values and messages: #, and at most & fit",
+        Refusal::PoolShort => "bytes of text in quotes: #, and at most & fit",
+        Refusal::BufferShort => "bytes to show: #, and at most & fit",
+        Refusal::RequiredMissing => "required field @ is missing",
+        Refusal::BadTable | Refusal::NoValue => "",
+    }
+}
+
+// The sentence that tells of a word that begins with a byte, 0 at the end of the file, and that can be shown or not.
+fn word_sentence(why: Refusal, first: u8, is_plain: bool) -> &'static str {
+    match (why, first) {
+        (Refusal::BadToken, b'"' | b'\'') => "this text in quotes isn't closed on its line",
+        (Refusal::BadToken, b'0'..=b'9') => "not a number: @",
+        (Refusal::BadToken, _) if !is_plain => "a character that can't stand here",
+        (Refusal::OtherExpected, 0) => "$ is expected, but the file ends",
+        (Refusal::NotBool, 0) => "true or false is expected, but the file ends",
+        _ => plain_sentence(why),
+    }
 }
 
 // Whether a word can be shown as it is: it is short, and no byte of it would spoil the screen.
-fn is_shown(word: &[u8], no: u8) -> bool {
-    let most = if no == refusals::UNKNOWN_FIELD || no == refusals::UNKNOWN_VALUE {
-        MOST_NAME
-    } else {
-        MOST_WORD
+fn is_shown(word: &[u8], why: Refusal) -> bool {
+    let most = match why {
+        Refusal::UnknownField | Refusal::UnknownValue => MOST_NAME,
+        _ => MOST_WORD,
     };
-    if word.len() > most {
-        return false;
-    }
-    let mut i = 0;
-    while i < word.len() {
-        if word[i] < 32 || word[i] == 127 {
-            return false;
-        }
-        i += 1;
-    }
-    utf8::is_utf8(word)
-}
-
-// The word, or other words for it where it can't be shown.
-fn shown_word<'a>(word: &'a [u8], other: &'a [u8], no: u8) -> &'a [u8] {
-    if is_shown(word, no) {
-        return word;
-    }
-    other
-}
-
-fn first_of(word: &[u8]) -> u8 {
-    if word.len() == 0 { 0 } else { word[0] }
-}
-
-// The words of what was expected, nothing where the sentence has no place for them.
-fn due<'a>(pieces: &'a [u8], no: u8, scene: Scene) -> &'a [u8] {
-    if no != refusals::OTHER_EXPECTED {
-        return line::front(pieces, 0);
-    }
-    line::nth(pieces, expected(scene))
+    word.len() <= most && !word.iter().any(|b| b.is_ascii_control()) && utf8::is_utf8(word)
 }
 
 // `PATH:3:7: unknown field valve_max (refusal 6)`, where so many columns of the line are used. The word is the token at the place.
 pub fn named(
-    buf: &mut Out,
-    at: usize,
+    out: &mut Out,
     path: &[u8],
     text: &[u8],
-    no: u8,
-    place: Place,
-    scene: Scene,
+    refused: Refused,
+    scene: &Scene,
     used: usize,
-) -> usize {
-    let a = say::say(
-        buf,
-        at,
-        b"@:#:&:",
-        path,
-        path,
-        place.line as usize,
-        place.column as usize,
-    );
+) {
+    let Refused { why, at: place } = refused;
+    out.bytes(path);
+    let line = place.line;
+    let column = place.column;
+    out.print(format_args!(":{line}:{column}:"));
     let word = words::word(text, place.offset);
-    let told = shown_word(word, b"this word", no);
-    let due = due(
-        b"a field's name\0a name or its closer\0{\0a colon\0text in quotes\0a value's name\0a number from 0 up\0a whole number\0",
-        no,
-        scene,
+    let is_plain = is_shown(word, why);
+    let told = if is_plain {
+        word
+    } else {
+        b"this word".as_slice()
+    };
+    let due = if why == Refusal::OtherExpected {
+        expected(scene)
+    } else {
+        ""
+    };
+    let first = word.first().copied().unwrap_or(0);
+    let template = word_sentence(why, first, is_plain);
+    let columns = used.saturating_add(place::head_width(path, place));
+    sentence(
+        out,
+        columns,
+        template.as_bytes(),
+        of_word(told, due.as_bytes()),
+        why,
     );
-    let columns = wrapping_add_usize(used, place::head_width(path, place));
-    let which = which(no, first_of(word), is_shown(word, no));
-    sentence(buf, a, columns, which, told, due, 0, 0, no)
 }
 
-pub fn is_placed(no: u8) -> bool {
-    if no < refusals::BAD_TOKEN {
-        return false;
-    }
-    no <= refusals::TOO_DEEP
+// Whether a refusal points at a word.
+pub fn is_placed(why: Refusal) -> bool {
+    (Refusal::BadToken.number()..=Refusal::TooDeep.number()).contains(&why.number())
 }
 
 // A refusal that points at no word, of a file: what is needed, and what there is.
-pub fn unplaced(
-    buf: &mut Out,
-    at: usize,
-    path: &[u8],
-    no: u8,
-    needed: usize,
-    asked: Asked,
-) -> usize {
-    let a = say::name(buf, at, b"@:", path);
-    if no == refusals::NODES_SHORT {
-        let values = line::least(asked.values, MOST_NODES - 1);
-        let others = wrapping_sub_usize(needed, 1);
-        return sentence(buf, a, 0, no as usize, b"", b"", others, values, no);
-    }
-    let pool = line::least(asked.bytes, POOL_LENGTH);
-    let most = if no == refusals::POOL_SHORT {
-        pool
-    } else {
-        SHOWN_LENGTH
+pub fn unplaced(out: &mut Out, path: &[u8], refused: Refused, asked: &Asked) {
+    let why = refused.why;
+    let needed = refused.at.offset;
+    out.bytes(path);
+    out.byte(b':');
+    let (needed, most) = match why {
+        Refusal::NodesShort => {
+            let most = asked.values.unwrap_or(usize::MAX).min(MOST_NODES - 1);
+            (needed.saturating_sub(1), most)
+        }
+        Refusal::PoolShort => (needed, asked.bytes.unwrap_or(usize::MAX).min(POOL_LENGTH)),
+        _ => (needed, SHOWN_LENGTH),
     };
-    sentence(buf, a, 0, no as usize, b"", b"", needed, most, no)
-}
-
-// `SCHEMA: this isn't a schema (refusal 1)`, `SCHEMA: this schema has no such message (refusal 2)`
-pub fn of_schema(buf: &mut Out, call: &[u8], asked: Asked, k: usize, no: u8) -> Told {
-    verdict::refused(unplaced(buf, 0, call::file(call, k), no, 0, asked))
+    let marks = Marks {
+        word: &[],
+        due: &[],
+        needed,
+        most,
+    };
+    sentence(out, 0, plain_sentence(why).as_bytes(), marks, why);
 }
 
 // `TEXT: required field valve_max is missing (refusal 17)`
-pub fn missing(buf: &mut Out, at: usize, path: &[u8], name: &[u8]) -> usize {
-    let no = refusals::REQUIRED_MISSING;
-    let a = say::name(buf, at, b"@:", path);
-    sentence(buf, a, path.len(), no as usize, name, b"", 0, 0, no)
+pub fn missing(out: &mut Out, path: &[u8], name: &[u8]) {
+    let why = Refusal::RequiredMissing;
+    out.bytes(path);
+    out.byte(b':');
+    sentence(
+        out,
+        path.len(),
+        plain_sentence(why).as_bytes(),
+        of_word(name, &[]),
+        why,
+    );
 }
 
 // A refusal of reading, whole: its line, and where it points at a word the text's line with a caret, and what helps.
 pub fn of_read(
-    buf: &mut Out,
+    out: &mut Out,
     path: &[u8],
-    asked: Asked,
-    image: &[u8],
-    layout: Layout,
+    asked: &Asked,
+    schema: &Schema,
     root: usize,
     text: &[u8],
-    no: u8,
-    place: Place,
-) -> Told
-    requires { Known image.now layout }
-{
-    let offset = place.offset;
-    if !is_placed(no) {
-        return verdict::refused(unplaced(buf, 0, path, no, offset, asked));
+    refused: Refused,
+) -> Verdict {
+    if is_placed(refused.why) {
+        let offset = refused.at.offset;
+        let scene = scene::scene_at(schema, root, text, offset);
+        named(out, path, text, refused, &scene, 0);
+        place::pointed(out, text, offset);
+        hint::hint(out, schema, words::word(text, offset), refused.why, &scene);
+    } else {
+        unplaced(out, path, refused, asked);
     }
-    let found = scene::scene_at(image, layout, root, text, offset);
-    let a = named(buf, 0, path, text, no, place, found, 0);
-    let b = place::pointed(buf, a, text, offset);
-    verdict::refused(hint::hint(buf, b, image, layout, words::word(text, offset), no, found))
+    Verdict::Refused
 }

@@ -7,79 +7,56 @@ mod names;
 mod runs;
 
 ghost use Rattle.definitions.specs.Reading.{scalar, after_name};
-ghost use Rattle.records.specs.Known.{Known};
 ghost use Rattle.lexer.specs.Steps.{line_at};
-ghost use Rattle.leaves.specs.Answers.{Fair, Lent, Fits, Holds, Answers};
+ghost use Rattle.leaves.specs.Answers.{Fair, Fits, Holds, Answers};
 
 use crate::names::{read_bool, read_enum};
 use crate::runs::read_string;
-use definitions::{Spot, Want, kinds, refusals, tokens};
-use leaves::{Answer, bad};
-use lexer::{Cursor, Line, Step};
+use definitions::refusals::Refusal;
+use definitions::{Refused, Want, kinds, tokens};
+use leaves::{Position, Source};
 use numbers::{read_signed, read_unsigned};
-use records::Layout;
 
 // A value of a type that is no message, from behind its colon on.
 fn read_scalar(
-    s: &[u8],
-    image: &[u8],
-    layout: Layout,
-    table: &[u8; 256],
-    escape: &[u8; 22],
+    source: &Source,
     w: Want,
-    q: Spot,
-    line: Line,
+    here: Position,
     nodes: &mut [u32],
     pool: &mut [u8],
-) -> Answer
-    requires { Lent table.now escape.now × Known image.now layout × Fair s.now q line × Holds w q × Fits image.now w }
-    ensures { Answers (line_at s.now) nodes.old nodes.new pool.old pool.new q (scalar image.now s.now w q) result }
+) -> Result<Position, Refused>
+    requires { Fair source.now.text.now here × Holds w here.spot × Fits source.now.schema.image.now w }
+    ensures { Answers (line_at source.now.text.now) nodes.old nodes.new pool.old pool.new here.spot (scalar source.now.schema.image.now source.now.text.now w here.spot) result }
 {
-    let kind = w.kind;
-    if kind < kinds::U32 {
-        return read_signed(s, table, w, q, line, nodes);
+    if w.kind < kinds::U32 {
+        return read_signed(source, w, here, nodes);
     }
-    if kind < kinds::BOOL {
-        return read_unsigned(s, table, w, q, line, nodes);
+    if w.kind < kinds::BOOL {
+        return read_unsigned(source, w, here, nodes);
     }
-    if kind == kinds::BOOL {
-        return read_bool(s, table, w, q, line, nodes);
+    if w.kind == kinds::BOOL {
+        return read_bool(source, w, here, nodes);
     }
-    if kind == kinds::ENUM {
-        return read_enum(s, image, layout, table, w, q, line, nodes);
+    if w.kind == kinds::ENUM {
+        return read_enum(source, w, here, nodes);
     }
-    read_string(s, table, escape, w, q, line, nodes, pool)
+    read_string(source, w, here, nodes, pool)
 }
 
 // `:` and a value.
 pub fn read_colon(
-    s: &[u8],
-    image: &[u8],
-    layout: Layout,
-    table: &[u8; 256],
-    escape: &[u8; 22],
+    source: &Source,
     w: Want,
-    q: Spot,
-    line: Line,
+    here: Position,
     nodes: &mut [u32],
     pool: &mut [u8],
-) -> Answer
-    requires { Lent table.now escape.now × Known image.now layout × Fair s.now q line × Holds w q × Fits image.now w }
-    ensures { Answers (line_at s.now) nodes.old nodes.new pool.old pool.new q (after_name image.now s.now w q) result }
+) -> Result<Position, Refused>
+    requires { Fair source.now.text.now here × Holds w here.spot × Fits source.now.schema.image.now w }
+    ensures { Answers (line_at source.now.text.now) nodes.old nodes.new pool.old pool.new here.spot (after_name source.now.schema.image.now source.now.text.now w here.spot) result }
 {
-    let st = Cursor::colon_from(q, line, s, table);
-    let Step::Token(t, after) = st else {
-        return bad(st);
-    };
-    let place = t.start;
+    let (t, after) = source.colon(here)?;
     if t.kind != tokens::COLON {
-        return Answer::No(refusals::OTHER_EXPECTED, place);
+        return Err(Refusal::OtherExpected.at(t.start));
     }
-    let on = Spot {
-        at: after.at,
-        node: q.node,
-        byte: q.byte,
-    };
-    let next = after.line;
-    read_scalar(s, image, layout, table, escape, w, on, next, nodes, pool)
+    read_scalar(source, w, here.moved(after), nodes, pool)
 }

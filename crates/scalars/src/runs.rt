@@ -1,64 +1,54 @@
 // string and bytes.
-ghost use Rattle.definitions.specs.Scope.{string};
 ghost use Rattle.definitions.specs.Reading.{string_value};
 ghost use Rattle.lexer.specs.Steps.{line_at};
-ghost use Rattle.leaves.specs.Answers.{Fair, Lent, Holds, Answers};
+ghost use Rattle.leaves.specs.Answers.{Fair, Holds, Answers};
 
-use definitions::{Node, Spot, Want, refusals, tokens};
-use leaves::{Answer, bad, is_broken, put};
-use lexer::{Cursor, Line, Step};
-use strings::Decoded;
+use definitions::refusals::Refusal;
+use definitions::{Node, Refused, Spot, Want, tokens};
+use leaves::{Position, Source, is_broken, put};
 
 // string, bytes: a string, its escapes decoded into the pool.
 pub(crate) fn read_string(
-    s: &[u8],
-    table: &[u8; 256],
-    escape: &[u8; 22],
+    source: &Source,
     w: Want,
-    q: Spot,
-    line: Line,
+    here: Position,
     nodes: &mut [u32],
     pool: &mut [u8],
-) -> Answer
-    requires { Lent table.now escape.now × Fair s.now q line × Holds w q }
-    ensures { Answers (line_at s.now) nodes.old nodes.new pool.old pool.new q (string_value s.now w q) result }
+) -> Result<Position, Refused>
+    requires { Fair source.now.text.now here × Holds w here.spot }
+    ensures { Answers (line_at source.now.text.now) nodes.old nodes.new pool.old pool.new here.spot (string_value source.now.text.now w here.spot) result }
 {
-    let st = Cursor::next_from(q, line, s, table);
-    let Step::Token(t, after) = st else {
-        return bad(st);
-    };
-    let place = t.start;
+    let (t, after) = source.next(here)?;
     if t.kind != tokens::STRING {
-        return Answer::No(refusals::OTHER_EXPECTED, place);
+        return Err(Refusal::OtherExpected.at(t.start));
     }
-    let from = place.offset + 1;
+    let from = t.start.offset + 1;
     let to = after.at - 1;
-    let p = q.byte;
-    let Decoded::Bytes(count, utf8) = strings::decode(&s[from..to], escape, pool, p) else {
-        return Answer::No(refusals::BAD_STRING, place);
+    let q = here.spot;
+    let Some(string) = strings::decode(&source.text[from..to], source.letters, pool, q.byte) else {
+        return Err(Refusal::BadString.at(t.start));
     };
-    if is_broken(w.kind, utf8) {
-        return Answer::No(refusals::BAD_STRING, place);
+    if is_broken(w.kind, string.utf8) {
+        return Err(Refusal::BadString.at(t.start));
     }
-    let k = q.node;
-    let end = after.line;
+    let end = q.node + 1;
     put(
         nodes,
-        k,
+        q.node,
         Node {
-            kind: w.kind as u32,
+            kind: u32::from(w.kind),
             field: w.field as u32,
-            high: p as u32,
-            low: count as u32,
-            end: (k + 1) as u32,
+            high: q.byte as u32,
+            low: string.count as u32,
+            end: end as u32,
         },
     );
-    Answer::Done(
-        Spot {
+    Ok(Position {
+        spot: Spot {
             at: after.at,
-            node: k + 1,
-            byte: p + count,
+            node: end,
+            byte: q.byte + string.count,
         },
-        end,
-    )
+        line: after.line,
+    })
 }

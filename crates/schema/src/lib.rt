@@ -1,37 +1,25 @@
 // The acceptance rule as a whole: the header, the runs of records, and the check.
 #![tactic(auto)]
 
-ghost use Rattle.std.specs.Prelude.{◌≡◌, ◌+◌, ◌*◌, ◌≤◌, ◌<◌, leb, length, drop};
+ghost use Rattle.std.specs.Prelude.{◌≡◌, ◌+◌, ◌*◌, ◌≤◌, ◌<◌, leb, length, drop, true, false, MatchOption};
 ghost use Rattle.definitions.specs.Basics as basic;
 ghost use Rattle.definitions.specs.Image as spec;
-ghost use Rattle.records.specs.Known.{Placed};
 
 use bits::bits;
-use distinct::{enums_distinct, messages_distinct};
+use distinct::{Fields, Members, all_distinct};
 use good_records::{fields_good, members_good};
-use records::{
-    HEADER, Layout, RUN, enum_count, enumeration, field_count, layout_of, message_count,
-    name_count, span_at, value_count,
-};
+use records::{HEADER, RUN, Schema, Tables, layout_of, message_count, name_count, span_at};
 
 // Form 1, zero bits, at least one message, exactly as long as the counts say.
+#[tactic(auto, using(records::proofs::Room::image_length_small), unfolding(definitions::specs::Image::header_good, definitions::specs::Image::form, definitions::specs::Image::image_length, records::specs::Known::layout_of))]
 fn header_good(image: &[u8]) -> bool
     ensures { result ≡ spec.header_good image.now }
 {
-    if image.len() < HEADER {
-        return false;
-    }
-    if bits(image, 0, 4) != 1 {
-        return false;
-    }
-    if bits(image, 60, 4) != 0 {
-        return false;
-    }
-    if message_count(image) < 1 {
-        return false;
-    }
-    let layout = layout_of(image);
-    image.len() == layout.names + name_count(image)
+    image.len() >= HEADER
+        && bits(image, 0, 4) == 1
+        && bits(image, 60, 4) == 0
+        && message_count(image) >= 1
+        && image.len() == layout_of(image).names + name_count(image)
 }
 
 // ---- runs
@@ -42,69 +30,79 @@ fn runs_good(image: &[u8], at: usize, count: usize, size: usize) -> bool
     ensures { result ≡ spec.running (λ i. spec.span_of (drop (at + 3 * i) image.now)) count size }
 {
     let mut total: usize = 0;
-    let mut i = 0;
-    while i < count {
+    for i in 0..count {
         let run = span_at(image, at + RUN * i);
         if run.first != total {
             return false;
         }
         total += run.count;
-        i += 1;
     }
     total == size
 }
 
-// Each enum has at least one value.
-fn enums_filled(image: &[u8], layout: Layout) -> bool
-    requires { Placed image.now layout }
-    ensures { result ≡ basic.all (spec.enum_count image.now) (λ i. leb 1 (spec.enumeration image.now i).count) }
+// The runs of fields, and those of enum values.
+fn message_runs_good(tables: &Tables) -> bool
+    ensures { result ≡ spec.running (spec.message tables.now.image.now) (spec.message_count tables.now.image.now) (spec.field_count tables.now.image.now) }
 {
-    let count = enum_count(image);
-    let mut i = 0;
-    while i < count {
-        let run = enumeration(image, layout, i);
-        if run.count < 1 {
-            return false;
-        }
-        i += 1;
-    }
-    true
+    runs_good(
+        tables.image,
+        HEADER,
+        tables.message_count(),
+        tables.field_count(),
+    )
+}
+
+fn enum_runs_good(tables: &Tables) -> bool
+    ensures { result ≡ spec.running (spec.enumeration tables.now.image.now) (spec.enum_count tables.now.image.now) (spec.value_count tables.now.image.now) }
+{
+    runs_good(
+        tables.image,
+        tables.layout.enums,
+        tables.enum_count(),
+        tables.value_count(),
+    )
+}
+
+// Each enum has at least one value.
+fn enums_filled(tables: &Tables) -> bool
+    ensures { result ≡ basic.all (spec.enum_count tables.now.image.now) (λ i. leb 1 (spec.enumeration tables.now.image.now i).count) }
+{
+    (0..tables.enum_count()).all(|i| tables.enumeration(i).count >= 1)
 }
 
 // ---- the rule
 
 // Runs, then records one by one, then those of a message or an enum against each other.
-fn records_good(image: &[u8], layout: Layout) -> bool
-    requires { Placed image.now layout }
-    ensures { result ≡ spec.records_good image.now }
+#[tactic(auto, unfolding(definitions::specs::Image::records_good, definitions::specs::Image::fields_agree, definitions::specs::Image::members_agree, distinct::specs::Seen::agree))]
+fn records_good(tables: &Tables) -> bool
+    ensures { result ≡ spec.records_good tables.now.image.now }
 {
-    if !runs_good(image, HEADER, message_count(image), field_count(image)) {
-        return false;
-    }
-    if !runs_good(image, layout.enums, enum_count(image), value_count(image)) {
-        return false;
-    }
-    if !enums_filled(image, layout) {
-        return false;
-    }
-    if !fields_good(image, layout) {
-        return false;
-    }
-    if !members_good(image, layout) {
-        return false;
-    }
-    if !messages_distinct(image, layout) {
-        return false;
-    }
-    enums_distinct(image, layout)
+    message_runs_good(tables)
+        && enum_runs_good(tables)
+        && enums_filled(tables)
+        && fields_good(tables)
+        && members_good(tables)
+        && all_distinct(&Fields { tables: *tables })
+        && all_distinct(&Members { tables: *tables })
 }
 
-// Whether the bytes are a schema image: of any bytes, with nothing asked of them.
+// The bytes as a schema where they are a schema image: of any bytes, with nothing asked of them.
+pub fn open<'a>(image: &'a [u8]) -> Option<Schema<'a>>
+    ensures { MatchOption result (spec.accepted image.now ≡ false) (λ schema. (spec.accepted image.now ≡ true) × (schema.image.now ≡ image.now)) }
+{
+    if !header_good(image) {
+        return None;
+    }
+    let layout = layout_of(image);
+    if !records_good(&Tables { image, layout }) {
+        return None;
+    }
+    Some(Schema { image, layout })
+}
+
+// Whether the bytes are a schema image.
 pub fn check(image: &[u8]) -> bool
     ensures { result ≡ spec.accepted image.now }
 {
-    if !header_good(image) {
-        return false;
-    }
-    records_good(image, layout_of(image))
+    open(image).is_some()
 }

@@ -1,10 +1,5 @@
-// The rooms that requests are answered in: 7,927,360 bytes in all, which a program has on its stack, of the usual 8 MiB; so it wants an
-// optimized build, which keeps one copy of each.
-
-// The input that is read and in no line yet.
-pub const INPUT_LENGTH: usize = 16384;
-
-pub type Input = [u8; INPUT_LENGTH];
+// The rooms that requests are answered in: 7,927,360 bytes in all with the buffers of what is read and written, which a program has on its
+// stack, of the usual 8 MiB; so it wants an optimized build, which keeps one copy of each.
 
 // The line that is answered, and what it is printed into. The longest that is asked for is a table of 65,536 nodes, 2,621,442 bytes.
 pub const LINE_LENGTH: usize = 2621504;
@@ -30,3 +25,25 @@ pub type Words = [u32; WORDS_LENGTH];
 pub const POOL_LENGTH: usize = 1048576;
 
 pub type Pool = [u8; POOL_LENGTH];
+
+// All of them: `image`, `older`, `table` and `pool` hold the state between requests, `words` and `bytes` are lent to what is read.
+#[derive(Drop)]
+pub struct Rooms {
+    pub line: Line,
+    pub image: Image,
+    pub older: Image,
+    pub table: Table,
+    pub pool: Pool,
+    pub words: Words,
+    pub bytes: Pool,
+}
+
+pub const EMPTY: Rooms = Rooms {
+    line: [0; LINE_LENGTH],
+    image: [0; IMAGE_LENGTH],
+    older: [0; IMAGE_LENGTH],
+    table: [0; TABLE_LENGTH],
+    pool: [0; POOL_LENGTH],
+    words: [0; WORDS_LENGTH],
+    bytes: [0; POOL_LENGTH],
+};

@@ -1,45 +1,29 @@
-// The state between requests, and what a request leaves.
+// The state between requests.
+use crate::held::Held;
 
-// The root, and how much of their rooms the schema image, the older one, the node table and the pool take.
-#[derive(Clone, Copy)]
-pub(crate) struct State {
-    pub(crate) image: usize,
-    pub(crate) older: usize,
+#[derive(Drop)]
+pub(crate) struct State<'a> {
+    pub(crate) image: Held<'a, u8>,
+    pub(crate) older: Held<'a, u8>,
     pub(crate) root: usize,
-    pub(crate) table: usize,
-    pub(crate) pool: usize,
+    pub(crate) table: Held<'a, u32>,
+    pub(crate) pool: Held<'a, u8>,
 }
 
-// What a request leaves: the state, whether the line was a request, and how much of the buffer is to be written.
-#[derive(Clone, Copy)]
-pub(crate) struct Answer {
-    pub(crate) state: State,
-    pub(crate) is_request: bool,
-    pub(crate) at: usize,
-}
-
-pub(crate) fn empty() -> State {
-    State {
-        image: 0,
-        older: 0,
-        root: 0,
-        table: 0,
-        pool: 0,
-    }
-}
-
-pub(crate) fn done(state: State, at: usize) -> Answer {
-    Answer {
-        state,
-        is_request: true,
-        at,
-    }
-}
-
-pub(crate) fn none(state: State) -> Answer {
-    Answer {
-        state,
-        is_request: false,
-        at: 0,
+impl<'a> State<'a> {
+    // Before the first request, in these rooms.
+    pub(crate) fn new(
+        image: &'a mut [u8],
+        older: &'a mut [u8],
+        table: &'a mut [u32],
+        pool: &'a mut [u8],
+    ) -> State<'a> {
+        State {
+            image: Held::nothing(image),
+            older: Held::nothing(older),
+            root: 0,
+            table: Held::nothing(table),
+            pool: Held::nothing(pool),
+        }
     }
 }

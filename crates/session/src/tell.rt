@@ -1,86 +1,74 @@
-// What is written of answers: `at` bytes of the buffer are to be written yet, and each function answers how many are then.
-ghost use Rattle.std.specs.Prelude.{◌<◌};
+// What is written of answers.
+use crate::lent::Parts;
+use definitions::Refused;
+use streams::out::Out;
+use text_format::Made;
 
-use definitions::Place;
-use streams::out::{Out, byte, bytes, digits};
+const DIGITS: [u8; 16] = *b"0123456789abcdef";
 
-// A space, and n in decimal.
-pub(crate) fn number(out: &mut Out, at: usize, n: usize) -> usize {
-    let to = byte(out, at, b' ');
-    digits(out, to, n)
+// ` 0 0`, where nothing is refused.
+pub(crate) fn granted(out: &mut Out) {
+    out.bytes(b" 0 0");
 }
 
 // ` NO AT LINE COL`
-pub(crate) fn refusal(out: &mut Out, at: usize, no: usize, place: Place) -> usize {
-    let a = number(out, at, no);
-    let b = number(out, a, place.offset);
-    let c = number(out, b, place.line as usize);
-    number(out, c, place.column as usize)
+pub(crate) fn refusal(out: &mut Out, refused: Refused) {
+    let (no, at) = (refused.why.number(), refused.at);
+    out.print(format_args!(" {no} {} {} {}", at.offset, at.line, at.column));
 }
 
-fn glyph(d: u8) -> u8
-    requires { d < 16 }
+fn hex_byte(out: &mut Out, b: u8) {
+    out.byte(DIGITS[usize::from(b / 16)]);
+    out.byte(DIGITS[usize::from(b % 16)]);
+}
+
+// Most significant digit first.
+fn hex_word(out: &mut Out, w: u32) {
+    for b in w.to_be_bytes() {
+        hex_byte(out, b);
+    }
+}
+
+// A space, and what each item is written as, `-` where there is none.
+fn each<T: Copy, F: Fn(&mut Out, T)>(out: &mut Out, items: &[T], write: F)
+    requires { F.IsAlwaysCallable write }
 {
-    if d < 10 { 48 + d } else { 87 + d }
-}
-
-fn hex_byte(out: &mut Out, at: usize, b: u8) -> usize {
-    let to = byte(out, at, glyph(b / 16));
-    byte(out, to, glyph(b % 16))
-}
-
-// The low byte of x.
-fn low(x: u32) -> u8 {
-    (x % 256) as u8
-}
-
-// Eight hex digits, most significant first.
-fn hex_word(out: &mut Out, at: usize, w: u32) -> usize {
-    let first = hex_byte(out, at, low(w / 16777216));
-    let second = hex_byte(out, first, low(w / 65536));
-    let third = hex_byte(out, second, low(w / 256));
-    hex_byte(out, third, low(w))
+    out.byte(b' ');
+    if items.is_empty() {
+        out.byte(b'-');
+    }
+    for item in items {
+        write(out, *item);
+    }
 }
 
 // A space, and the bytes in hex, `-` where there are none.
-pub(crate) fn hex(out: &mut Out, at: usize, s: &[u8]) -> usize {
-    let mut to = byte(out, at, b' ');
-    if s.len() == 0 {
-        return byte(out, to, b'-');
-    }
-    let mut i = 0;
-    while i < s.len() {
-        to = hex_byte(out, to, s[i]);
-        i += 1;
-    }
-    to
+pub(crate) fn hex(out: &mut Out, bytes: &[u8]) {
+    each(out, bytes, hex_byte);
 }
 
-// A space, and the words in hex, `-` where there are none.
-pub(crate) fn hex_words(out: &mut Out, at: usize, s: &[u32]) -> usize {
-    let mut to = byte(out, at, b' ');
-    if s.len() == 0 {
-        return byte(out, to, b'-');
-    }
-    let mut i = 0;
-    while i < s.len() {
-        to = hex_word(out, to, s[i]);
-        i += 1;
-    }
-    to
+// The same of words.
+pub(crate) fn hex_words(out: &mut Out, words: &[u32]) {
+    each(out, words, hex_word);
+}
+
+// ` NODES POOLBYTES WORDSHEX POOLHEX`
+pub(crate) fn table(out: &mut Out, made: Made, parts: Parts) {
+    out.print(format_args!(" {} {}", made.nodes, made.bytes));
+    hex_words(out, parts.table);
+    hex(out, parts.pool);
 }
 
 // The line that ends an answer: whether all that was to be left alone was.
-pub(crate) fn kept(out: &mut Out, at: usize, is_kept: bool) -> usize {
+pub(crate) fn kept(out: &mut Out, is_kept: bool) {
     if is_kept {
-        return bytes(out, at, b" kept\n");
+        out.bytes(b" kept\n");
+    } else {
+        out.bytes(b" touched\n");
     }
-    bytes(out, at, b" touched\n")
 }
 
 // The answer to a line that is no request: its number, counted from 1.
-pub(crate) fn no_request(out: &mut Out, at: usize, line: usize) -> usize {
-    let mark = byte(out, at, b'?');
-    let to = number(out, mark, line);
-    byte(out, to, b'\n')
+pub(crate) fn no_request(out: &mut Out, line: usize) {
+    out.print(format_args!("? {line}\n"));
 }

@@ -11,6 +11,7 @@ fn decimal_length(n: u64) -> usize
 {
     let mut more = 0;
     let mut left = n;
+    // Kept: no index is counted, the number falls.
     while left >= 10000 {
         left = left / 10000;
         more += 4;
@@ -38,6 +39,7 @@ pub fn print_decimal(n: u64, buffer: &mut [u8], at: usize) -> usize
     }
     let mut k = end - 1;
     let mut left = n;
+    // Kept: the last digit is found first, so the place falls with the number.
     while left >= 10 {
         put_byte((48 + left % 10) as u8, buffer, k);
         k -= 1;

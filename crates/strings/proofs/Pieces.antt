@@ -3,20 +3,22 @@ use mathlib.Core.Path.{◌≡◌, sym, ◌∙◌, refl, ap}
 use mathlib.Core.Bool.{true, not}
 use mathlib.Core.List.{List, [], ◌∷◌, ◌++◌, append-nil}
 use mathlib.Core.Option.{Option, none, some}
-use Prim.Native.Nat.{ℕ, ◌≤◌, ◌<◌, ◌+◌}
+use Prim.Native.Nat.{ℕ, ◌≤◌, ◌<◌, ◌+◌, ◌-◌}
+use Rattle.std.proofs.lemmas.List.{take_rest}
 use native.Mathlib.Omega.{arith}
-use native.Mathlib.Numerals.{add-one}
 use lib.Dec.{eqb}
-use lib.ListN.{length, get_or, set, take, drop, drop_of_length-le, length-append, length-drop, take-append-drop}
-use lib.Seq.{drop-cons, drop-drop, sets, length-sets, length-take-le, append_snoc}
+use lib.ListN.{length, set, take, drop, length-append, length-drop, take-append-drop}
+use lib.Seq.{sets, length-sets, length-take-le, append_snoc}
 use borrow.Author.Tests.{eqb-false, not-true}
 use Rattle.definitions.specs.Basics.{each}
 use Rattle.definitions.specs.Integers.{front}
 use Rattle.definitions.specs.declared.Utf8.{Utf8}
 use Rattle.definitions.specs.Utf8.{whole, step, steps, utf8}
 use Rattle.definitions.specs.Strings.{Piece, piece, bad_piece, first_piece, before, decode}
-use Rattle.strings.specs.declared.Piece.TheVariants.{Byte, Bad}
-use Rattle.strings.specs.declared.Decoded.TheVariants as decoded
+use Rattle.std.specs.Prelude as std
+use Rattle.std.specs.Prelude.{Some, None}
+use Rattle.strings.specs.declared.escapes.Piece as answered
+use Rattle.strings.specs.declared.Decoded.{Decoded}
 use Rattle.utf8.specs.Values.{ascii}
 use Rattle.strings.specs.Values.{plain, told, decoded_of, decoded_front}
 use Rattle.laws.proofs.Lists.{and_parts, each_map, front-le}
@@ -29,13 +31,17 @@ use Rattle.laws.proofs.Stores.{sets-snoc}
 
 -- ---- what a piece was, of what was told of it
 
-told-byte : (p : Piece) (b n : ℕ) → told p ≡ Byte b n → p ≡ piece b n
-told-byte (piece c m) b n e = let q : c ≡ b = cc in let r : m ≡ n = cc in rw (q, r)
-told-byte bad_piece b n e = let z : ◌≡◌ {A = ℕ} 0 1 = cc in absurd (omega arith)
+told-some : (p : Piece) (a : answered.Piece) → told p ≡ Some a → p ≡ piece a.byte a.count
+told-some (piece c m) a e = cc
+told-some bad_piece a e = let z : ◌≡◌ {A = ℕ} 0 1 = cc in absurd (omega arith)
 
-told-bad : (p : Piece) → told p ≡ Bad → p ≡ bad_piece
+told-bad : (p : Piece) → told p ≡ None → p ≡ bad_piece
 told-bad (piece c m) e = let z : ◌≡◌ {A = ℕ} 0 1 = cc in absurd (omega arith)
 told-bad bad_piece e = refl
+
+empty : (s : List ℕ) → length s ≡ 0 → s ≡ []
+empty [] h = refl
+empty (b ∷ bs) h = absurd (omega arith)
 
 -- ---- one byte more at the end
 
@@ -94,101 +100,92 @@ module _ (raw : List ℕ) (n : ℕ) (e : n ≡ front plain raw) where
   pub plain-count : n ≡ length (take n raw)
   plain-count = sym (length-take-le n raw plain-within)
 
--- ---- the piece at a place
+-- ---- the first piece of what is left
 
-module _ (raw : List ℕ) (i : ℕ) (h : i < length raw) where
-  abbrev here : Piece
-  here = first_piece (get_or raw i 0) (drop (i + 1) raw)
+module _ (b : ℕ) (after rest : List ℕ) (parts : rest ≡ b ∷ after) where
+  decode-bad : first_piece b after ≡ bad_piece → decode rest ≡ none
+  decode-bad e = rw parts (decode_is b after ∙ rw e refl)
 
-  split : drop i raw ≡ get_or raw i 0 ∷ drop (i + 1) raw
-  split = rw (add-one i) (drop-cons raw i 0 h)
+  front-bad : first_piece b after ≡ bad_piece → decoded_front rest ≡ []
+  front-bad e = rw parts (decoded_front-cons b after ∙ rw e refl)
 
-  decode-bad : here ≡ bad_piece → decode (drop i raw) ≡ none
-  decode-bad e = rw split (decode_is (get_or raw i 0) (drop (i + 1) raw) ∙ rw e refl)
+  module _ (c n : ℕ) (e : first_piece b after ≡ piece c n) where
+    decode-piece : decode rest ≡ before c (decode (drop n rest))
+    decode-piece = rw parts (decode_is b after ∙ rw e refl)
 
-  front-bad : here ≡ bad_piece → decoded_front (drop i raw) ≡ []
-  front-bad e = rw split (decoded_front-cons (get_or raw i 0) (drop (i + 1) raw) ∙ rw e refl)
+    front-piece : decoded_front rest ≡ c ∷ decoded_front (drop n rest)
+    front-piece = rw parts (decoded_front-cons b after ∙ rw e refl)
 
-  module _ (b n : ℕ) (e : here ≡ piece b n) where
-    rest : drop n (get_or raw i 0 ∷ drop (i + 1) raw) ≡ drop (i + n) raw
-    rest = rw (← split) (drop-drop n i raw)
-
-    decode-piece : decode (drop i raw) ≡ before b (decode (drop (i + n) raw))
-    decode-piece = rw split (decode_is (get_or raw i 0) (drop (i + 1) raw) ∙ rw e (ap (λ (l : List ℕ). before b (decode l)) rest))
-
-    front-piece : decoded_front (drop i raw) ≡ b ∷ decoded_front (drop (i + n) raw)
-    front-piece = rw split (decoded_front-cons (get_or raw i 0) (drop (i + 1) raw) ∙ rw e (ap (λ (l : List ℕ). b ∷ decoded_front l) rest))
-
-    takes : (1 ≤ n) × (i + n ≤ length raw)
-    takes = let r = reaches-first (get_or raw i 0) (drop (i + 1) raw) b n e in (omega arith, omega (arith, length-drop (i + 1) raw))
-
--- ---- decoded so far
+-- ---- decoded so far, and what is left
 
 module _ (raw start : List ℕ) (at : ℕ) where
-  pub record Turn (pool : List ℕ) (u : Utf8) (n i : ℕ) : Type 0 where
+  pub record Turn (pool : List ℕ) (u : Utf8) (n : ℕ) (rest : List ℕ) : Type 0 where
     pub done : List ℕ
-    pub all : joined done (decode (drop i raw)) ≡ decode raw
-    pub front : done ++ decoded_front (drop i raw) ≡ decoded_front raw
+    pub all : joined done (decode rest) ≡ decode raw
+    pub front : done ++ decoded_front rest ≡ decoded_front raw
     pub count : n ≡ length done
     pub state : u ≡ steps whole done
     pub stored : pool ≡ sets start at done
-    pub few : n ≤ i
-    pub inside : i ≤ length raw
+    pub few : n + length rest ≤ length raw
 
-  abbrev Answers : decoded.the_data → List ℕ → Type 0
+  abbrev Answers : std.Option Decoded → List ℕ → Type 0
   Answers r pool = (r ≡ decoded_of (decode raw)) × (pool ≡ sets start at (decoded_front raw))
 
   -- the plain bytes at the front are their own decoding
-  pub turn-start : (pool : List ℕ) (n : ℕ) → n ≡ front plain raw → pool ≡ sets start at (take n raw) → Turn pool whole n n
+  pub turn-start : (pool : List ℕ) (n : ℕ) → n ≡ front plain raw → pool ≡ sets start at (take n raw) → Turn pool whole n (take (length raw - n) (drop n raw))
   turn-start pool n e w =
       let p : each plain (take n raw) ≡ true = rw e (front-passes plain raw) in
-      record {
+      rw (take_rest raw n)
+      (record {
         done = take n raw;
         all = decode-plain (take n raw) (drop n raw) p ∙ ap decode (take-append-drop n raw);
         front = front-plain (take n raw) (drop n raw) p ∙ ap decoded_front (take-append-drop n raw);
         count = plain-count raw n e;
         state = sym (plain-whole (take n raw) p);
         stored = w;
-        few = omega arith;
-        inside = plain-within raw n e;
-      }
+        few = omega (arith, plain-within raw n e, length-drop n raw);
+      })
 
-  module _ (pool : List ℕ) (u : Utf8) (n i : ℕ) (t : Turn pool u n i) where
+  module _ (pool : List ℕ) (u : Utf8) (n : ℕ) (rest : List ℕ) (t : Turn pool u n rest) where
     pub turn-length : length pool ≡ length start
     turn-length = ap length t.stored ∙ length-sets start at t.done
 
-    pub turn-done : length raw ≤ i → Answers (decoded.Bytes n (eqb u.left 0)) pool
+    pub turn-done : length rest ≡ 0 → Answers (Some (record { count = n; utf8 = eqb u.left 0 })) pool
     unfolding utf8
     turn-done h =
-        let end : drop i raw ≡ [] = drop_of_length-le raw h in
+        let end : rest ≡ [] = empty rest h in
         let d : decode raw ≡ some t.done = sym t.all ∙ rw (end, decode-nil, append-nil) refl in
         let f : decoded_front raw ≡ t.done = sym t.front ∙ rw (end, decoded_front-nil, append-nil) refl in
         (rw (d, t.count, t.state) refl, rw f t.stored)
 
-    module _ (h : i < length raw) where
-      pub turn-bad : told (here raw i h) ≡ Bad → Answers decoded.Bad pool
+    module _ (b : ℕ) (after : List ℕ) (parts : rest ≡ b ∷ after) where
+      pub turn-bad : told (first_piece b after) ≡ None → Answers None pool
       turn-bad e =
-          let b = told-bad (here raw i h) e in
-          let d : decode raw ≡ none = sym t.all ∙ rw (decode-bad raw i h b) refl in
-          let f : decoded_front raw ≡ t.done = sym t.front ∙ rw (front-bad raw i h b, append-nil) refl in
+          let q = told-bad (first_piece b after) e in
+          let d : decode raw ≡ none = sym t.all ∙ rw (decode-bad b after rest parts q) refl in
+          let f : decoded_front raw ≡ t.done = sym t.front ∙ rw (front-bad b after rest parts q, append-nil) refl in
           (rw d refl, rw f t.stored)
 
-      module _ (b k : ℕ) (e : told (here raw i h) ≡ Byte b k) where
-        p : here raw i h ≡ piece b k
-        p = told-byte (here raw i h) b k e
+      module _ (a : answered.Piece) (e : told (first_piece b after) ≡ Some a) where
+        p : first_piece b after ≡ piece a.byte a.count
+        p = told-some (first_piece b after) a e
 
-        pub turn-takes : (1 ≤ k) × (i + k ≤ length raw)
-        turn-takes = takes raw i h b k p
+        pub turn-takes : (1 ≤ a.count) × (a.count ≤ length rest)
+        turn-takes = rw parts (reaches-first b after a.byte a.count p)
 
-        pub turn_on : (pool₁ : List ℕ) (u₁ : Utf8) → pool₁ ≡ set pool (at + n) b → u₁ ≡ step u b → Turn pool₁ u₁ (n + 1) (i + k)
+        pub turn-smaller : length (take (length rest - a.count) (drop a.count rest)) < length rest
+        turn-smaller = rw (take_rest rest a.count) (omega (arith, turn-takes, length-drop a.count rest))
+
+        pub turn_on : (pool₁ : List ℕ) (u₁ : Utf8) → pool₁ ≡ set pool (at + n) a.byte → u₁ ≡ step u a.byte
+            → Turn pool₁ u₁ (n + 1) (take (length rest - a.count) (drop a.count rest))
         turn_on pool₁ u₁ w v =
-            record {
-              done = t.done ++ (b ∷ []);
-              all = joined-before t.done b (decode (drop (i + k) raw)) ∙ rw (← decode-piece raw i h b k p) t.all;
-              front = append_snoc t.done b (decoded_front (drop (i + k) raw)) ∙ rw (← front-piece raw i h b k p) t.front;
-              count = omega (arith, t.count, length-append t.done (b ∷ []));
-              state = v ∙ rw t.state (sym (steps-snoc t.done whole b));
-              stored = w ∙ rw (t.stored, t.count) (sym (sets-snoc t.done start at b));
-              few = omega (arith, t.few, turn-takes);
-              inside = turn-takes.1;
-            }
+            rw (take_rest rest a.count)
+            (record {
+              done = t.done ++ (a.byte ∷ []);
+              all = joined-before t.done a.byte (decode (drop a.count rest)) ∙ rw (← decode-piece b after rest parts a.byte a.count p) t.all;
+              front = append_snoc t.done a.byte (decoded_front (drop a.count rest)) ∙ rw (← front-piece b after rest parts a.byte a.count p) t.front;
+              count = omega (arith, t.count, length-append t.done (a.byte ∷ []));
+              state = v ∙ rw t.state (sym (steps-snoc t.done whole a.byte));
+              stored = w ∙ rw (t.stored, t.count) (sym (sets-snoc t.done start at a.byte));
+              few = omega (arith, t.few, turn-takes, length-drop a.count rest);
+            })

@@ -1,2 +1,3 @@
 -- What the answers are, beside the definitions of the crate `definitions`.
+pub mod Rows
 pub mod Values

@@ -1,33 +1,26 @@
 -- What an answer says of a string: of a piece of it, and of the whole.
-use Rattle.std.specs.Prelude.{ℕ, zero, suc, Bool, ◌&&◌, not, List, [], ◌∷◌, eqb, length, drop}
-use Rattle.std.proofs.Math.Option.{Option, none, some}
-use Rattle.definitions.specs.Basics.{when◌then◌otherwise◌}
-use Rattle.definitions.specs.Integers.{octal_digit, hex_digit}
+use Rattle.std.specs.Prelude.{ℕ, zero, suc, Bool, ◌&&◌, not, List, [], ◌∷◌, eqb, length, drop, Option, Some, None}
+use Rattle.std.proofs.Math.Option as math
+use Rattle.std.proofs.Math.Option.{none, some}
 use Rattle.definitions.specs.Strings.{Piece, piece, bad_piece, first_piece}
 use Rattle.definitions.specs.Utf8.{utf8}
 use Rattle.utf8.specs.Values.{ascii}
-use Rattle.strings.specs.declared.Piece as answered
-use Rattle.strings.specs.declared.Piece.TheVariants.{Byte, Bad}
+use Rattle.strings.specs.declared.escapes.Piece as answered
 use Rattle.strings.specs.declared.Decoded.{Decoded}
-use Rattle.strings.specs.declared.Decoded.TheVariants as decoded
-
--- the digits of an escape: hex, or octal
-unfoldable pub digit_in : Bool → ℕ → Bool
-digit_in hex b = when hex then (λ _. hex_digit b) otherwise λ _. octal_digit b
 
 -- a letter of one byte that stands for itself: no backslash
 abbrev pub plain : ℕ → Bool
 plain b = ascii b && not (eqb b 92)
 
 -- a piece as the code answers it
-abbrev pub told : Piece → answered.Piece
-told (piece b n) = Byte b n
-told bad_piece = Bad
+abbrev pub told : Piece → Option answered.Piece
+told (piece b n) = Some (record { byte = b; count = n })
+told bad_piece = None
 
 -- a decoded string as the code answers it
-abbrev pub decoded_of : Option (List ℕ) → Decoded
-decoded_of none = decoded.Bad
-decoded_of (some bs) = decoded.Bytes (length bs) (utf8 bs)
+abbrev pub decoded_of : math.Option (List ℕ) → Option Decoded
+decoded_of none = None
+decoded_of (some bs) = Some (record { count = length bs; utf8 = utf8 bs })
 
 abbrev pub ahead : Piece → (ℕ → List ℕ) → List ℕ
 ahead bad_piece rest = []

@@ -5,7 +5,7 @@ use mathlib.Core.Bool.{Bool, true, false, ◌&&◌}
 use mathlib.Core.Path.{◌≡◌, refl, sym, ap, ◌∙◌}
 use mathlib.Core.List.{List}
 use lib.Dec.{eqb, leb}
-use borrow.Author.Tests.{eq-eqb, ne_eqb, not-true, not-false}
+use borrow.Author.Tests.{not-true, not-false}
 use Rattle.definitions.specs.declared.Node.{Node}
 use Rattle.definitions.specs.declared.Want.{Want}
 use Rattle.definitions.specs.Basics.{when◌then◌otherwise◌}
@@ -26,19 +26,6 @@ use Rattle.live.proofs.Lives.{kids_of, from_on}
 use Rattle.survey.specs.Survey.{weight, count}
 
 -- ---- what a scalar counts for
-
-module _ (k r : ℕ) where
-  pub weight-message : (k ≡ map_entry → ⊥) → 1 ≡ weight (eqb k map_entry) r
-  unfolding weight
-  weight-message h = rw (ne_eqb k map_entry h)
-
-  pub weight-key : k ≡ map_entry → r ≡ 0 → 0 ≡ weight (eqb k map_entry) r
-  unfolding weight
-  weight-key h z = rw (eq-eqb k map_entry h, eq-eqb r 0 z)
-
-  pub weight-value : k ≡ map_entry → (r ≡ 0 → ⊥) → 1 ≡ weight (eqb k map_entry) r
-  unfolding weight
-  weight-value h z = rw (eq-eqb k map_entry h, ne_eqb r 0 z)
 
 pub weight-le : (b : Bool) (r a : ℕ) → a ≡ weight b r → a ≤ 1
 unfolding weight

@@ -1,93 +1,72 @@
 -- The first required field that lacks: of a message's own fields, and in the walk over the live messages and entries of a span.
-use Prim.Native.Nat.{ℕ, ◌+◌, ◌-◌, ◌≤◌, ◌<◌}
+use Prim.Native.Nat.{ℕ, ◌+◌, ◌≤◌, ◌<◌}
 use native.Mathlib.Omega.{arith}
-use mathlib.Core.Bool.{Bool, true, false, ◌&&◌, not}
+use mathlib.Core.Bool.{Bool, true, false, ◌&&◌, ◌||◌, not}
 use mathlib.Core.Path.{◌≡◌, refl, sym, ap, ◌∙◌}
 use mathlib.Core.List.{List}
 use mathlib.Core.Option.{Option, none, some}
-use borrow.Author.Tests.{eq-eqb, ne_eqb, not-true, not-false}
+use Rattle.std.specs.Prelude.{None, is_some}
+use Rattle.std.specs.Prelude as code
+use borrow.Author.Tests.{not-true, not-false}
 use Rattle.definitions.specs.declared.Node.{Node}
 use Rattle.definitions.specs.declared.Want.{Want}
 use Rattle.definitions.specs.declared.Span.{Span}
-use Rattle.definitions.specs.declared.Field.{Field}
 use Rattle.definitions.specs.Basics.{when◌then◌otherwise◌, find}
-use Rattle.definitions.specs.Image.{field_count, message, field, accepted}
+use Rattle.definitions.specs.Image.{message, field, is_required, accepted}
 use Rattle.definitions.specs.Scope.{Scope, in_message, want, within, has_field, nests, map_entry}
 use Rattle.definitions.specs.Nodes.{node_at, table_end, forest}
 use Rattle.definitions.specs.Validity.{below}
 use Rattle.definitions.specs.Live.{Tree, rank_of, tree_of, has, sharing, replaced}
-use Rattle.laws.proofs.Tests.{find-hit, find-miss, find-end}
 use Rattle.laws.proofs.Forest.{end_of, tiles-le}
-use Rattle.records.proofs.Accepted.{message-inside}
 use Rattle.nodes.specs.Span.{There, Sound}
-use Rattle.nodes.proofs.Scopes.{within-entry, within-message, there-message, there-want, nests-known}
+use Rattle.nodes.proofs.Scopes.{within-entry, within-message, there-want, nests-known}
 use Rattle.nodes.proofs.Ranks.{rank-known}
 use Rattle.validity.proofs.Checks.{fits-known}
 use Rattle.live.specs.Live.{live_at}
 use Rattle.live.proofs.Sounds.{sound-tiled, sound-tree, sound-rest, sound-kids}
 use Rattle.live.proofs.Trees.{tree-none, tree-some}
 use Rattle.live.proofs.Lives.{kids_of, from_on}
-use Rattle.survey.specs.declared.required.Missing.TheVariants as missing
-use Rattle.survey.specs.Survey.{lacks, lacking_in, ◌or_else◌, lacking_below, lacking, missing_of}
+use Rattle.records.specs.Known.{option_of}
+use Rattle.message.proofs.Requires.{given}
+use Rattle.survey.specs.Survey.{lacks, lacking_in, ◌or_else◌, lacking_below, lacking}
 
--- what an answer says of its definition
-pub field-some : (k : ℕ) (o : Option ℕ) → missing.Field k ≡ missing_of o → o ≡ some k
-field-some k none e = let z : ◌≡◌ {A = ℕ} 0 1 = cc in absurd (omega arith)
-field-some k (some j) e = cc
+-- ---- the first of two, by the code's answer for the first
 
-pub nothing-none : (o : Option ℕ) → missing.Nothing ≡ missing_of o → o ≡ none
-nothing-none none e = refl
-nothing-none (some j) e = let z : ◌≡◌ {A = ℕ} 0 1 = cc in absurd (omega arith)
+module _ (o : Option ℕ) (r : code.Option ℕ) (e : r ≡ option_of o) where
+  pub first-none : is_some r ≡ false → o ≡ none
+  first-none h = go o e
+    where
+      go : (o : Option ℕ) → r ≡ option_of o → o ≡ none
+      go none e = refl
+      go (some i) e = cc (rw e at h)
+
+  pub first-some : (p : Unit {0} → Option ℕ) → is_some r ≡ true → r ≡ option_of (o or_else p)
+  first-some p h = go o e
+    where
+      go : (o : Option ℕ) → r ≡ option_of o → r ≡ option_of (o or_else p)
+      go none e = cc (rw e at h)
+      go (some i) e = e
 
 -- ---- a message's own fields
 
-module _ (s : List ℕ) (t : Tree) (i : ℕ) (f : Field) (e : f ≡ field s i) where
-  pub lacks-other : (f.label ≡ 1 → ⊥) → false ≡ lacks s t i
-  unfolding lacks
-  lacks-other h = rw (ne_eqb (field s i).label 1 (λ z. h (rw e z)))
-
-  pub lacks-required : f.label ≡ 1 → not (has i t) ≡ lacks s t i
-  unfolding lacks
-  lacks-required h =
-      let q : (field s i).label ≡ 1 = rw e at h in
-      rw (eq-eqb (field s i).label 1 q)
-
--- a search as it goes on: what is left of the fields finds what all of them find
-pub record Left (s w : List ℕ) (from to first end i : ℕ) : Type 0 where
-  pub inside : end ≤ field_count s
-  pub alike : (pool : List ℕ) → find (lacks s (from_on pool w from to)) i (end - i) ≡ find (lacks s (from_on pool w from to)) first (end - first)
+-- a field that lacks is one that is not given
+pub lacks_given : (s : List ℕ) (t : Tree) (i : ℕ) (b : Bool) → given s t i ≡ b → lacks s t i ≡ not b
+unfolding lacks
+lacks_given s t i b e = rw (← e) (go (is_required (field s i)) (has i t))
+  where
+    go : (a b : Bool) → (a && not b) ≡ not (not a || b)
+    go true true = refl
+    go true false = refl
+    go false b = refl
 
 module _ (s : List ℕ) (v : Want) (t : Tree) where
-  pub lacking-entry : v.kind ≡ map_entry → missing.Nothing ≡ missing_of (lacking_in s (within v) t)
+  pub lacking-entry : v.kind ≡ map_entry → None ≡ option_of (lacking_in s (within v) t)
   unfolding lacking_in
   lacking-entry h = rw (within-entry v h)
 
-  pub lacking-own : (v.kind ≡ map_entry → ⊥) → (run : Span) → run ≡ message s v.reference
-      → lacking_in s (within v) t ≡ find (lacks s t) run.first (run.first + run.count - run.first)
+  pub lacking-own : (v.kind ≡ map_entry → ⊥) → (run : Span) → run ≡ message s v.reference → lacking_in s (within v) t ≡ find (lacks s t) run.first run.count
   unfolding lacking_in
-  lacking-own h run e =
-      let q : run.first + run.count - run.first ≡ run.count = omega arith in
-      rw (q, within-message v h, e)
-
-pub run_inside : (s : List ℕ) (v : Want) → accepted s ≡ true → There s (within v) → (v.kind ≡ map_entry → ⊥) → (run : Span) → run ≡ message s v.reference
-    → run.first + run.count ≤ field_count s
-run_inside s v good t h run e =
-    let i = message-inside s good v.reference (there-message s v h t) in
-    omega (arith, ap (λ (r : Span). r.first) e, ap (λ (r : Span). r.count) e)
-
-module _ (s w : List ℕ) (from to first end i : ℕ) (x : Left s w from to first end i) where
-  pub left-next : i < end → ((pool : List ℕ) → false ≡ lacks s (from_on pool w from to) i) → Left s w from to first end (i + 1)
-  left-next h n = record {
-    inside = x.inside;
-    alike = λ pool. find-miss (lacks s (from_on pool w from to)) i end h (sym (n pool)) ∙ x.alike pool;
-  }
-
-  pub left-hit : i < end → (pool : List ℕ) → true ≡ lacks s (from_on pool w from to) i
-      → missing.Field i ≡ missing_of (find (lacks s (from_on pool w from to)) first (end - first))
-  left-hit h pool n = ap missing_of (sym (find-hit (lacks s (from_on pool w from to)) i end h (sym n)) ∙ x.alike pool)
-
-  pub left-none : end ≤ i → (pool : List ℕ) → missing.Nothing ≡ missing_of (find (lacks s (from_on pool w from to)) first (end - first))
-  left-none h pool = ap missing_of (sym (find-end (lacks s (from_on pool w from to)) i end h) ∙ x.alike pool)
+  lacking-own h run e = rw (within-message v h, e)
 
 -- ---- the live messages and entries of a span
 
@@ -102,21 +81,22 @@ pub record Walk (s pool : List ℕ) (c : Scope) (w : List ℕ) (from to i : ℕ)
   pub alike : lacking s c (from_on pool w from to) ≡ lacking_below s c (from_on pool w i to)
 
 module _ (s pool : List ℕ) (c : Scope) (w : List ℕ) (from to : ℕ) where
-  pub walk-own : (k : ℕ) → missing.Field k ≡ missing_of (lacking_in s c (from_on pool w from to)) → missing.Field k ≡ missing_of (lacking s c (from_on pool w from to))
-  unfolding lacking
-  walk-own k h = rw (field-some k (lacking_in s c (from_on pool w from to)) h)
+  module _ (r : code.Option ℕ) (e : r ≡ option_of (lacking_in s c (from_on pool w from to))) where
+    pub walk-own : is_some r ≡ true → r ≡ option_of (lacking s c (from_on pool w from to))
+    unfolding lacking
+    walk-own h = first-some (lacking_in s c (from_on pool w from to)) r e (λ _. lacking_below s c (from_on pool w from to)) h
 
-  pub walk_start : Sound s pool c w from to → missing.Nothing ≡ missing_of (lacking_in s c (from_on pool w from to)) → Walk s pool c w from to from
-  unfolding lacking
-  walk_start g h = record {
-    on = omega arith;
-    inside = tiles-le w from to g.tiled;
-    sound = g;
-    alike = rw (nothing-none (lacking_in s c (from_on pool w from to)) h);
-  }
+    pub walk_start : Sound s pool c w from to → is_some r ≡ false → Walk s pool c w from to from
+    unfolding lacking
+    walk_start g h = record {
+      on = omega arith;
+      inside = tiles-le w from to g.tiled;
+      sound = g;
+      alike = rw (first-none (lacking_in s c (from_on pool w from to)) r e h);
+    }
 
 module _ (s pool : List ℕ) (c : Scope) (w : List ℕ) (from to i : ℕ) (x : Walk s pool c w from to i) where
-  pub walk_end : to ≤ i → missing.Nothing ≡ missing_of (lacking s c (from_on pool w from to))
+  pub walk_end : to ≤ i → None ≡ option_of (lacking s c (from_on pool w from to))
   unfolding lacking_below
   walk_end h = rw (x.alike, tree-none pool w i to h)
 
@@ -175,16 +155,14 @@ module _ (s pool : List ℕ) (c : Scope) (w : List ℕ) (from to i : ℕ) (x : W
       walk-inner l = walk-some ∙ rw (nested, not-true (replaced_at s pool c w i to) l, rank-known (node_at w i) (nests-known (node_at w i).kind nested), e)
 
       module _ (l : live_at s pool c w i to ≡ true) where
-        pub walk-live : missing.Nothing ≡ missing_of (lacking s (within (want s c n.field)) (tree_of pool (forest w (i + 1) n.end)))
-            → Walk s pool c w from to n.end
-        walk-live d = walk-next (walk-inner l ∙ rw (nothing-none (lacking s (within (want s c n.field)) (tree_of pool (forest w (i + 1) n.end))) d))
+        module _ (r : code.Option ℕ) (d : r ≡ option_of (lacking s (within (want s c n.field)) (tree_of pool (forest w (i + 1) n.end)))) where
+          pub walk-live : is_some r ≡ false → Walk s pool c w from to n.end
+          walk-live h = walk-next (walk-inner l ∙ rw (first-none (lacking s (within (want s c n.field)) (tree_of pool (forest w (i + 1) n.end))) r d h))
 
-        pub walk-found : (j : ℕ) → missing.Field j ≡ missing_of (lacking s (within (want s c n.field)) (tree_of pool (forest w (i + 1) n.end)))
-            → missing.Field j ≡ missing_of (lacking s c (from_on pool w from to))
-        walk-found j d =
-            let q : lacking s c (from_on pool w from to) ≡ some j =
-            x.alike ∙ walk-inner l ∙ rw (field-some j (lacking s (within (want s c n.field)) (tree_of pool (forest w (i + 1) n.end))) d) in
-            ap missing_of (sym q)
+          pub walk-found : is_some r ≡ true → r ≡ option_of (lacking s c (from_on pool w from to))
+          walk-found h =
+              first-some (lacking s (within (want s c n.field)) (tree_of pool (forest w (i + 1) n.end))) r d (λ _. lacking_below s c (from_on pool w (end_of w i) to)) h
+              ∙ ap option_of (sym (x.alike ∙ walk-inner l))
 
 -- ---- the whole table
 

@@ -6,8 +6,6 @@ use Rattle.definitions.specs.Image.{message, field, is_required, is_message, acc
 use Rattle.definitions.specs.Scope.{Scope, in_message, in_entry, want, within, nests, map_entry}
 use Rattle.definitions.specs.Validity.{valid, below}
 use Rattle.definitions.specs.Live.{Tree, nil, node, tree_of, has, sharing, replaced, meaning}
-use Rattle.survey.specs.declared.required.Missing.{Missing}
-use Rattle.survey.specs.declared.required.Missing.TheVariants as missing
 
 -- neither the schema nor the root nor the table is refused (1, 2, 15)
 unfoldable pub taken : (s : List ℕ) (root : ℕ) (w pool : List ℕ) → Bool
@@ -62,7 +60,3 @@ lacking s c t = lacking_in s c t or_else λ _. lacking_below s c t
 unfoldable pub missing_field : (s : List ℕ) (root : ℕ) (w pool : List ℕ) → Option ℕ
 missing_field s root w pool =
     when taken s root w pool then (λ _. lacking s (in_message root) (tree_of pool (below w))) otherwise λ _. none
-
-abbrev pub missing_of : Option ℕ → Missing
-missing_of none = missing.Nothing
-missing_of (some i) = missing.Field i

@@ -2,53 +2,47 @@
 // handed in: where schema, root or table are refused (1, 2, 15), there are no values and nothing lacks.
 #![tactic(auto)]
 
-pub mod required;
+mod required;
 mod scalars;
 
-ghost use Rattle.std.specs.Prelude.{◌≡◌};
+ghost use Rattle.std.specs.Prelude.{◌≡◌, true, false, MatchOption};
+ghost use Rattle.records.specs.Known.{option_of};
 ghost use Rattle.survey.specs.Survey as spec;
 
-use crate::required::{Missing, lacking};
+use crate::required::lacking;
 use crate::scalars::count;
-use nodes::{node, root_want};
+use nodes::{root_want, table_end};
+use records::Schema;
 
-// Neither the schema nor the root nor the table is refused.
-fn is_taken(image: &[u8], root: usize, nodes: &[u32], pool: &[u8]) -> bool
-    ensures { result ≡ spec.taken image.now root nodes.now pool.now }
+// The schema, where neither it nor the root nor the table is refused.
+fn taken<'a>(image: &'a [u8], root: usize, nodes: &[u32], pool: &[u8]) -> Option<Schema<'a>>
+    ensures { MatchOption result (spec.taken image.now root nodes.now pool.now ≡ false) (λ schema. (spec.taken image.now root nodes.now pool.now ≡ true) × (schema.image.now ≡ image.now)) }
 {
-    if !schema::check(image) {
-        return false;
+    let schema = schema::open(image)?;
+    if schema.message_count() <= root {
+        return None;
     }
-    if records::message_count(image) <= root {
-        return false;
+    if !validity::is_valid(&schema, root, nodes, pool) {
+        return None;
     }
-    let layout = records::layout_of(image);
-    validity::is_valid(image, layout, root, nodes, pool)
+    Some(schema)
 }
 
 // How many live values a table has: scalars, unknown ones among them, but for the keys of entries.
 pub fn values(image: &[u8], root: usize, nodes: &[u32], pool: &[u8]) -> usize
     ensures { result ≡ spec.value_count image.now root nodes.now pool.now }
 {
-    if !is_taken(image, root, nodes, pool) {
+    let Some(schema) = taken(image, root, nodes, pool) else {
         return 0;
-    }
-    let layout = records::layout_of(image);
-    let n = node(nodes, 0);
-    let w = root_want(root);
-    count(image, layout, nodes, pool, w, 1, n.end as usize)
+    };
+    count(&schema, nodes, pool, root_want(root), 1, table_end(nodes))
 }
 
-// The first required field that lacks in a live message, root included: its own fields in table order first, then its live
-// children in node order.
-pub fn missing(image: &[u8], root: usize, nodes: &[u32], pool: &[u8]) -> Missing
-    ensures { result ≡ spec.missing_of (spec.missing_field image.now root nodes.now pool.now) }
+// The first required field that lacks in a live message, root included, by its index in the whole field table: its own fields in
+// table order first, then its live children in node order.
+pub fn missing(image: &[u8], root: usize, nodes: &[u32], pool: &[u8]) -> Option<usize>
+    ensures { result ≡ option_of (spec.missing_field image.now root nodes.now pool.now) }
 {
-    if !is_taken(image, root, nodes, pool) {
-        return Missing::Nothing;
-    }
-    let layout = records::layout_of(image);
-    let n = node(nodes, 0);
-    let w = root_want(root);
-    lacking(image, layout, nodes, pool, w, 1, n.end as usize)
+    let schema = taken(image, root, nodes, pool)?;
+    lacking(&schema, nodes, pool, root_want(root), 1, table_end(nodes))
 }

@@ -1,19 +1,18 @@
 -- The root of a table, and a whole table: it is valid if its root is good and what lies below is a good span.
-use Prim.Native.Nat.{ℕ, ◌*◌, ◌≤◌, ◌<◌}
-use native.Mathlib.Omega.{arith}
+use Prim.Native.Nat.{ℕ, ◌*◌, ◌≤◌}
 use mathlib.Core.Bool.{true, false, ◌&&◌}
-use mathlib.Core.Path.{◌≡◌, sym}
+use mathlib.Core.Path.{◌≡◌}
 use mathlib.Core.List.{List}
 use lib.Dec.{eqb, leb}
 use lib.ListN.{length}
-use borrow.Author.Tests.{leb-true, eqb-true, le-leb, eq-eqb}
+use borrow.Author.Tests.{leb-true, eqb-true}
 use Rattle.definitions.specs.declared.Node.{Node}
 use Rattle.definitions.specs.Basics.{between}
 use Rattle.definitions.specs.Refusals.{most_nodes, most_depth}
 use Rattle.definitions.specs.Scope.{Scope, in_message, body}
 use Rattle.definitions.specs.Nodes.{node_at, table_end}
 use Rattle.definitions.specs.Validity.{root_good, below, valid}
-use Rattle.laws.proofs.Lists.{and_parts, never_true}
+use Rattle.laws.proofs.Lists.{and_parts}
 use Rattle.nodes.specs.Span.{span_good}
 
 pub record Root (w : List ℕ) : Type 0 where
@@ -50,53 +49,10 @@ module _ (w : List ℕ) where
         room = leb-true (5 * table_end w) (length w) p₅.1;
       }
 
-  pub root-short : length w < 5 → false ≡ root_good w
-  root-short h = sym (never_true (root_good w) (λ t. let r = root-parts t in omega (arith, r.some, r.room)))
-
-  root-but-room : (node_at w 0).kind ≡ body → (node_at w 0).field ≡ 0 → (node_at w 0).high ≡ 0 → (node_at w 0).low ≡ 0 → 1 ≤ table_end w → table_end w ≤ most_nodes
-      → root_good w ≡ leb (5 * table_end w) (length w)
-  unfolding root_good
-  root-but-room k f h l a b =
-      simp (
-        eq-eqb (node_at w 0).kind body k,
-        eq-eqb (node_at w 0).field 0 f,
-        eq-eqb (node_at w 0).high 0 h,
-        eq-eqb (node_at w 0).low 0 l,
-        le-leb 1 (table_end w) a,
-        le-leb (table_end w) most_nodes b,
-      )
-
   module _ (n : Node) (e : n ≡ node_at w 0) where
-    refuted : (Root w → ⊥) → false ≡ root_good w
-    refuted k = sym (never_true (root_good w) (λ t. k (root-parts t)))
-
-    pub root-kind : (n.kind ≡ body → ⊥) → false ≡ root_good w
-    root-kind h = refuted (λ r. h (rw e r.kind))
-
-    pub root-field : (n.field ≡ 0 → ⊥) → false ≡ root_good w
-    root-field h = refuted (λ r. h (rw e r.field))
-
-    pub root-high : (n.high ≡ 0 → ⊥) → false ≡ root_good w
-    root-high h = refuted (λ r. h (rw e r.high))
-
-    pub root-low : (n.low ≡ 0 → ⊥) → false ≡ root_good w
-    root-low h = refuted (λ r. h (rw e r.low))
-
     pub root-end : n.end ≡ table_end w
     unfolding table_end
     root-end = rw e
-
-    pub root_none : n.end < 1 → false ≡ root_good w
-    root_none h = refuted (λ r. omega (arith, r.some, root-end))
-
-    pub root-many : most_nodes < n.end → false ≡ root_good w
-    root-many h = refuted (λ r. omega (arith, r.few, root-end))
-
-    pub root-room : n.kind ≡ body → n.field ≡ 0 → n.high ≡ 0 → n.low ≡ 0 → 1 ≤ n.end → n.end ≤ most_nodes → leb (5 * n.end) (length w) ≡ root_good w
-    root-room k f h l a b =
-        let r : root_good w ≡ leb (5 * table_end w) (length w) =
-        root-but-room (rw e at k) (rw e at f) (rw e at h) (rw e at l) (rw root-end at a) (rw root-end at b) in
-        rw root-end (sym r)
 
 -- ---- a whole table
 

@@ -6,122 +6,83 @@ ghost use Rattle.definitions.specs.Image.{message_count};
 ghost use Rattle.definitions.specs.Scope.{within};
 ghost use Rattle.definitions.specs.Nodes.{tiles, forest};
 ghost use Rattle.definitions.specs.Validity as good;
-ghost use Rattle.records.specs.Known.{Known};
-ghost use Rattle.nodes.specs.Span.{There, node_good, span_good};
+ghost use Rattle.nodes.specs.Span.{There, FieldsAre, node_good, span_good};
 
 use definitions::kinds::words;
 use definitions::limits::{MOST_DEPTH, MOST_NODES, MOST_NUMBER, NODE_WORDS};
-use definitions::{Node, Want, kinds};
-use nodes::{has_field, is_run, is_unknown, nests, node, root_want, want};
-use records::Layout;
+use definitions::{Node, Span, Want, kinds};
+use nodes::{fields_of, node, root_want, table_end, want};
+use records::Schema;
 use utf8::is_utf8;
 
 // Numbers lie in their type's range: i32 and enum sign-extended, u32 and kind 11 below 2^32, bool 0 or 1, the others any.
-fn in_range(kind: u32, n: Node) -> bool
-    ensures { result ≡ good.in_range kind n }
+#[tactic(auto, unfolding(definitions::specs::Validity::in_range))]
+fn in_range(n: Node) -> bool
+    ensures { result ≡ good.in_range n.kind n }
 {
-    match kind {
+    match n.kind {
         words::I32 | words::ENUM => {
-            if n.low < 2147483648 {
-                return n.high == 0;
+            if n.low <= i32::MAX as u32 {
+                n.high == 0
+            } else {
+                n.high == u32::MAX
             }
-            n.high == 4294967295
         }
         words::U32 | words::UNKNOWN_U32 => n.high == 0,
-        words::BOOL => {
-            if n.high != 0 {
-                return false;
-            }
-            n.low <= 1
-        }
+        words::BOOL => n.high == 0 && n.low <= 1,
         _ => true,
     }
 }
 
 // Strings, bytes and kind 13 lie inside the pool, and strings are UTF-8.
+#[tactic(auto, unfolding(definitions::specs::Validity::run_good))]
 fn run_good(pool: &[u8], n: Node) -> bool
     ensures { result ≡ good.run_good pool.now n }
 {
-    let start = n.high as usize;
-    let end = start + n.low as usize;
-    if pool.len() < end {
-        return false;
-    }
-    if n.kind != words::STRING {
-        return true;
-    }
-    is_utf8(&pool[start..end])
+    n.high as usize + n.low as usize <= pool.len()
+        && (n.kind != words::STRING || is_utf8(n.run(pool)))
 }
 
 // Messages and entries have 0, 0.
+#[tactic(auto, unfolding(definitions::specs::Validity::value_good))]
 fn value_good(pool: &[u8], n: Node) -> bool
     ensures { result ≡ good.value_good pool.now n }
 {
-    if nests(n.kind) {
-        if n.high != 0 {
-            return false;
-        }
-        return n.low == 0;
+    if n.nests() {
+        n.high == 0 && n.low == 0
+    } else if n.is_run() {
+        run_good(pool, n)
+    } else {
+        in_range(n)
     }
-    if is_run(n.kind) {
-        return run_good(pool, n);
-    }
-    in_range(n.kind, n)
 }
 
-// Fields are their scope's, and kinds match them; unknown kinds stand in messages only, under numbers 1 to 536,870,911.
-fn field_fits(image: &[u8], layout: Layout, w: Want, n: Node) -> bool
-    requires { Known image.now layout × There image.now (within w) }
-    ensures { result ≡ good.field_fits image.now (within w) n }
+// Fields are their scope's, of which `own` are all, and kinds match them; unknown kinds stand in messages only, under numbers 1 to
+// 536,870,911.
+fn field_fits(schema: &Schema, own: Span, w: Want, n: Node) -> bool
+    requires { There schema.now.image.now (within w) × FieldsAre schema.now.image.now (within w) own }
+    ensures { result ≡ good.field_fits schema.now.image.now (within w) n }
 {
     let i = n.field as usize;
-    if is_unknown(n.kind) {
-        if w.kind == kinds::ENTRY {
-            return false;
-        }
-        if i < 1 {
-            return false;
-        }
-        return i <= MOST_NUMBER;
+    if n.is_unknown() {
+        return w.kind != kinds::ENTRY && (1 <= i && i <= MOST_NUMBER);
     }
-    if !has_field(image, layout, w, i) {
-        return false;
-    }
-    let asked = want(image, layout, w, i);
-    n.kind == asked.kind as u32
+    own.first <= i && (i - own.first < own.count && n.kind == u32::from(want(schema, w, i).kind))
 }
 
 // Node `i` of a span up to `to`, but for what lies below it: its end lies in the span, its field and value are good, and a node that is no
 // message and no entry has none below it.
-fn node_good(
-    image: &[u8],
-    layout: Layout,
-    pool: &[u8],
-    w: Want,
-    n: Node,
-    i: usize,
-    to: usize,
-) -> bool
-    requires { Known image.now layout × There image.now (within w) }
-    ensures { result ≡ node_good image.now pool.now (within w) i to n }
+#[tactic(auto, unfolding(nodes::specs::Span::node_good))]
+fn node_good(schema: &Schema, pool: &[u8], own: Span, w: Want, n: Node, i: usize, to: usize) -> bool
+    requires { There schema.now.image.now (within w) × FieldsAre schema.now.image.now (within w) own }
+    ensures { result ≡ node_good schema.now.image.now pool.now (within w) i to n }
 {
     let end = n.end as usize;
-    if end <= i {
-        return false;
-    }
-    if to < end {
-        return false;
-    }
-    if !field_fits(image, layout, w, n) {
-        return false;
-    }
-    if !value_good(pool, n) {
-        return false;
-    }
-    if nests(n.kind) {
-        return true;
-    }
-    end <= i + 1
+    i < end
+        && end <= to
+        && field_fits(schema, own, w, n)
+        && value_good(pool, n)
+        && (n.nests() || end <= i + 1)
 }
 
 // An entry has two children in either order, one with field 0 (the key), one with field 1 (the value).
@@ -141,13 +102,11 @@ fn is_pair(nodes: &[u32], i: usize, e: usize) -> bool
     if (b.end as usize) < e {
         return false;
     }
-    if a.field == 0 {
-        return b.field == 1;
+    match a.field {
+        0 => b.field == 1,
+        1 => b.field == 0,
+        _ => false,
     }
-    if a.field == 1 {
-        return b.field == 0;
-    }
-    false
 }
 
 // The children of an entry are a pair.
@@ -155,16 +114,12 @@ fn entry_good(nodes: &[u32], kind: u32, i: usize, e: usize) -> bool
     requires { (tiles nodes.now i e ≡ true) × (5 * e ≤ length nodes.now) }
     ensures { result ≡ good.entry_good kind (forest nodes.now i e) }
 {
-    if kind == words::ENTRY {
-        return is_pair(nodes, i, e);
-    }
-    true
+    kind != words::ENTRY || is_pair(nodes, i, e)
 }
 
 // The nodes from `from` up to `to` tile the span and are good in the scope inside `w`, at most `left` messages and entries deep.
 fn span_good(
-    image: &[u8],
-    layout: Layout,
+    schema: &Schema,
     nodes: &[u32],
     pool: &[u8],
     w: Want,
@@ -172,22 +127,24 @@ fn span_good(
     from: usize,
     to: usize,
 ) -> bool
-    requires { Known image.now layout × There image.now (within w) × (from ≤ to) × (5 * to ≤ length nodes.now) }
-    ensures { result ≡ span_good image.now pool.now (within w) left nodes.now from to }
+    requires { There schema.now.image.now (within w) × (from ≤ to) × (5 * to ≤ length nodes.now) }
+    ensures { result ≡ span_good schema.now.image.now pool.now (within w) left nodes.now from to }
 {
+    let own = fields_of(schema, w);
     let mut i = from;
+    // Kept: the next sibling is where this one ends, and no end is trusted before `node_good` says so: no index is counted.
     while i < to {
         let n = node(nodes, i);
         let end = n.end as usize;
-        if !node_good(image, layout, pool, w, n, i, to) {
+        if !node_good(schema, pool, own, w, n, i, to) {
             return false;
         }
-        if nests(n.kind) {
+        if n.nests() {
             if left == 0 {
                 return false;
             }
-            let inner = want(image, layout, w, n.field as usize);
-            if !span_good(image, layout, nodes, pool, inner, left - 1, i + 1, end) {
+            let inner = want(schema, w, n.field as usize);
+            if !span_good(schema, nodes, pool, inner, left - 1, i + 1, end) {
                 return false;
             }
             if !entry_good(nodes, n.kind, i + 1, end) {
@@ -200,6 +157,7 @@ fn span_good(
 }
 
 // Node 0 is the root, and its end is the table's length.
+#[tactic(auto, unfolding(definitions::specs::Validity::root_good, definitions::specs::Nodes::table_end))]
 fn root_good(nodes: &[u32]) -> bool
     ensures { result ≡ good.root_good nodes.now }
 {
@@ -208,37 +166,28 @@ fn root_good(nodes: &[u32]) -> bool
     }
     let n = node(nodes, 0);
     let end = n.end as usize;
-    if n.kind != words::MESSAGE {
-        return false;
-    }
-    if n.field != 0 {
-        return false;
-    }
-    if n.high != 0 {
-        return false;
-    }
-    if n.low != 0 {
-        return false;
-    }
-    if end < 1 {
-        return false;
-    }
-    if MOST_NODES < end {
-        return false;
-    }
-    NODE_WORDS * end <= nodes.len()
+    n.kind == words::MESSAGE
+        && n.field == 0
+        && n.high == 0
+        && n.low == 0
+        && 1 <= end
+        && end <= MOST_NODES
+        && NODE_WORDS * end <= nodes.len()
 }
 
 // A table is valid for the schema and root.
-pub fn is_valid(image: &[u8], layout: Layout, root: usize, nodes: &[u32], pool: &[u8]) -> bool
-    requires { Known image.now layout × (root < message_count image.now) }
-    ensures { result ≡ good.valid image.now root nodes.now pool.now }
+pub fn is_valid(schema: &Schema, root: usize, nodes: &[u32], pool: &[u8]) -> bool
+    requires { root < message_count schema.now.image.now }
+    ensures { result ≡ good.valid schema.now.image.now root nodes.now pool.now }
 {
-    if !root_good(nodes) {
-        return false;
-    }
-    let n = node(nodes, 0);
-    let end = n.end as usize;
-    let w = root_want(root);
-    span_good(image, layout, nodes, pool, w, MOST_DEPTH, 1, end)
+    root_good(nodes)
+        && span_good(
+            schema,
+            nodes,
+            pool,
+            root_want(root),
+            MOST_DEPTH,
+            1,
+            table_end(nodes),
+        )
 }

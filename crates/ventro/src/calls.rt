@@ -1,91 +1,66 @@
 // Calls: the program's arguments are one, or, for `script`, each line of standard input.
-use crate::rooms::{Call, Input};
-use records::same;
-use report::rooms::{Image, Pool, Shown, Text, Words};
+use report::rooms::Rooms;
+use report::verdict::Verdict;
 use std::env::{Env, FillError};
 use std::fs::OpenOptions;
 use std::io;
 use std::io::Write;
-use streams::lines::Lines;
+use streams::line;
+use streams::lines::{Line, Lines};
 use streams::out::Out;
-use streams::{line, lines, out};
+
+// The words of a call, and a script's line.
+pub const CALL_LENGTH: usize = 65536;
 
 // The descriptor that the verdict is written to, beside standard output and error: 3.
 const VERDICT: &str = "/dev/fd/3";
 
-const WRONG: u8 = 2;
-
-// Ends an argument of n bytes, put at `at`, by a zero byte, and answers where the next one goes; past the room where it doesn't fit.
-fn ended(call: &mut [u8], at: usize, n: usize) -> usize {
-    let from = line::least(at, call.len());
-    let end = line::least(n, call.len() - from) + from;
-    if end < call.len() {
-        call[end] = 0;
-        return end + 1;
-    }
-    usize::MAX
-}
-
-// Puts argument i at `at`.
-fn argument(rt: HostRuntime, call: &mut [u8], at: usize, i: usize) -> Result<usize, FillError> {
-    let from = line::least(at, call.len());
-    rt.arg(i, &mut call[from..])
-}
-
-// All arguments but the program's name. How much of the room they take, or more than it has.
-fn arguments(rt: HostRuntime, call: &mut [u8]) -> usize {
+// All arguments but the program's name, each ended by a zero byte: how much of the room they take, if they have room there.
+fn arguments(rt: HostRuntime, room: &mut [u8]) -> Option<usize> {
     let mut at = 0;
     for i in 1..usize::MAX {
-        if at > call.len() {
-            return at;
-        }
-        match argument(rt, call, at, i) {
-            Ok(n) => at = ended(call, at, n),
-            Err(FillError::NotPresent) => return at,
-            Err(FillError::TooLong) => return usize::MAX,
+        match rt.arg(i, &mut room[at..]) {
+            Ok(n) => {
+                let end = at + n;
+                *room.get_mut(end)? = 0;
+                at = end + 1;
+            }
+            Err(FillError::NotPresent) => return Some(at),
+            Err(FillError::TooLong) => return None,
         }
     }
-    at
+    None
 }
 
-// A byte of a script's line, 0 for the blanks, tabs and returns that stand between words.
-fn word_byte(b: u8) -> u8 {
-    if b <= b' ' { 0 } else { b }
-}
-
-// Ends each word of a line with a zero byte, and the line too.
-fn cut(line: &mut [u8], used: usize) -> usize {
-    let end = line::least(used, line.len());
-    let mut i = 0;
-    while i < end {
-        line[i] = word_byte(line[i]);
-        i += 1;
+// Ends each word of a line with a zero byte, and the line too: zero for the blanks, tabs and returns that stand between words. Answers how
+// long the call is.
+fn cut(room: &mut [u8], length: usize) -> usize {
+    let end = length.min(room.len());
+    for b in &mut room[..end] {
+        if *b <= b' ' {
+            *b = 0;
+        }
     }
-    if end < line.len() {
-        line[end] = 0;
+    if end < room.len() {
+        room[end] = 0;
         return end + 1;
     }
     end
 }
 
 // `> check v1.schema settings.txt`, the call that is answered next.
-fn echo(buf: &mut Out, line: &[u8]) {
-    let a = out::bytes(buf, 0, b"> ");
-    let b = out::bytes(buf, a, line);
-    let c = out::byte(buf, b, b'\n');
-    out::flush(buf, c);
+fn echo(out: &mut Out, line: &[u8]) {
+    out.bytes(b"> ");
+    out.bytes(line);
+    out.byte(b'\n');
+    out.flush();
 }
 
 // `= 1`, the verdict on it.
-fn judge(buf: &mut Out, verdict: u8) {
-    let a = out::bytes(buf, 0, b"= ");
-    let b = out::digits(buf, a, verdict as usize);
-    let c = out::byte(buf, b, b'\n');
-    out::flush(buf, c);
-}
-
-fn worse(a: u8, b: u8) -> u8 {
-    if a < b { b } else { a }
+fn judge(out: &mut Out, verdict: Verdict) {
+    let digit = verdict as u8;
+    out.print(format_args!("= {digit}\n"));
+    out.flush();
 }
 
 // Writes to the verdict's descriptor; where there is none, nothing.
@@ -95,115 +70,47 @@ fn put(rt: HostRuntime, bytes: &[u8]) -> io::Result<()> {
 }
 
 // Writes the verdict's digit.
-pub fn tell(rt: HostRuntime, verdict: u8) {
-    let digit = if verdict > WRONG {
-        b'2'
-    } else {
-        b'0' + verdict
-    };
-    match put(rt, &[digit]) {
-        Ok(()) => (),
-        Err(_) => (),
-    }
+pub fn tell(rt: HostRuntime, verdict: Verdict) {
+    let _ = put(rt, &[b'0' + verdict as u8]);
 }
 
-// One line of a script; an empty one and one that begins with `#` are passed over.
-fn answered(
-    buf: &mut Out,
-    call: &mut Call,
-    image: &mut Image,
-    older: &mut Image,
-    text: &mut Text,
-    words: &mut Words,
-    pool: &mut Pool,
-    more: &mut Words,
-    extra: &mut Pool,
-    shown: &mut Shown,
-    at: Lines,
-) -> u8 {
-    if !at.is_whole || at.length == 0 || call[0] == b'#' {
-        return 0;
+// One line of a script; an empty one and one that begins with `#` are passed over, and one that went over its room is no call.
+fn answered(out: &mut Out, call: &mut [u8], rooms: &mut Rooms, line: Line) -> Verdict {
+    let (Line::Whole(length) | Line::Cut(length)) = line;
+    let text = line::front(call, length);
+    if text.is_empty() || text.starts_with(b"#") {
+        return Verdict::Taken;
     }
-    echo(buf, line::front(call, at.length));
-    let n = if at.is_long { 0 } else { cut(call, at.length) };
-    let verdict = console::run(
-        buf,
-        line::front(call, n),
-        image,
-        older,
-        text,
-        words,
-        pool,
-        more,
-        extra,
-        shown,
-        true,
-    );
-    judge(buf, verdict);
+    echo(out, text);
+    let n = match line {
+        Line::Whole(_) => cut(call, length),
+        Line::Cut(_) => 0,
+    };
+    let verdict = console::run(out, line::front(call, n), rooms, true);
+    judge(out, verdict);
     verdict
 }
 
 // The calls of standard input to its end, and the worst of their verdicts. Nothing says that the input ends, so the turns are counted
-// down from a number that no run uses up.
-fn script(
-    buf: &mut Out,
-    input: &mut Input,
-    call: &mut Call,
-    image: &mut Image,
-    older: &mut Image,
-    text: &mut Text,
-    words: &mut Words,
-    pool: &mut Pool,
-    more: &mut Words,
-    extra: &mut Pool,
-    shown: &mut Shown,
-) -> u8 {
-    let mut at = lines::begun();
-    let mut worst = 0;
-    let mut turns = u64::MAX;
-    while turns > 0 && !at.is_over {
-        at = lines::next(buf.rt, input, call, at);
-        let verdict = answered(
-            buf, call, image, older, text, words, pool, more, extra, shown, at,
-        );
-        worst = worse(worst, verdict);
-        turns -= 1;
+// up to a number that no run uses up.
+fn script(out: &mut Out, call: &mut [u8], rooms: &mut Rooms) -> Verdict {
+    let mut lines = Lines::new(out.rt);
+    let mut worst = Verdict::Taken;
+    for _ in 0..u64::MAX {
+        let Some(line) = lines.next(call) else {
+            break;
+        };
+        worst = worst.max(answered(out, call, rooms, line));
     }
     worst
 }
 
 // The call that the arguments are, or a script's. Arguments that go over their room are no call.
-pub fn all(
-    buf: &mut Out,
-    input: &mut Input,
-    call: &mut Call,
-    image: &mut Image,
-    older: &mut Image,
-    text: &mut Text,
-    words: &mut Words,
-    pool: &mut Pool,
-    more: &mut Words,
-    extra: &mut Pool,
-    shown: &mut Shown,
-) -> u8 {
-    let got = arguments(buf.rt, call);
-    let n = if got > call.len() { 0 } else { got };
-    if same(line::front(call, n), b"script\0") {
-        return script(
-            buf, input, call, image, older, text, words, pool, more, extra, shown,
-        );
+pub fn all(out: &mut Out, call: &mut [u8], rooms: &mut Rooms) -> Verdict {
+    let n = arguments(out.rt, call).unwrap_or(0);
+    let words = line::front(call, n);
+    if words == b"script\0".as_slice() {
+        return script(out, call, rooms);
     }
-    console::run(
-        buf,
-        line::front(call, n),
-        image,
-        older,
-        text,
-        words,
-        pool,
-        more,
-        extra,
-        shown,
-        false,
-    )
+    console::run(out, words, rooms, false)
 }

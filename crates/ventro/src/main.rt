@@ -2,23 +2,14 @@
 #![tactic(auto)]
 
 mod calls;
-mod rooms;
+
+use report::rooms;
+use streams::out::Out;
 
 fn main(rt: HostRuntime) {
-    let mut out = streams::out::begun(rt);
-    let mut input = rooms::input();
-    let mut call = rooms::call();
-    let mut image = rooms::image();
-    let mut older = rooms::image();
-    let mut text = rooms::text();
-    let mut words = rooms::words();
-    let mut pool = rooms::pool();
-    let mut more = rooms::words();
-    let mut extra = rooms::pool();
-    let mut shown = rooms::shown();
-    let verdict = calls::all(
-        &mut out, &mut input, &mut call, &mut image, &mut older, &mut text, &mut words, &mut pool,
-        &mut more, &mut extra, &mut shown,
-    );
+    let mut out = Out::new(rt);
+    let mut call = [0; calls::CALL_LENGTH];
+    let mut rooms = rooms::EMPTY;
+    let verdict = calls::all(&mut out, &mut call, &mut rooms);
     calls::tell(rt, verdict);
 }

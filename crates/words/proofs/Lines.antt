@@ -1,23 +1,19 @@
--- Lines: where the line of an offset begins, by the byte before it, and where it ends.
+-- Lines: where the line of an offset begins, by the byte before it, and that it lies inside the text.
 use mathlib.Core.Path.{◌≡◌, sym, ◌∙◌, ap}
 use Prim.Native.Nat.{ℕ, ◌+◌, ◌-◌, ◌≤◌, ◌<◌}
-use mathlib.Core.Bool.{Bool, not}
+use mathlib.Core.Bool.{not}
 use mathlib.Core.List.{List, []}
 use native.Mathlib.Omega.{arith}
 use lib.Dec.{eqb}
 use lib.ListN.{length, get_or, drop, length-drop}
-use borrow.Author.Tests.{eq-eqb, ne_eqb, le-leb, lt-leb}
+use borrow.Author.Tests.{le-leb, lt-leb}
 use Rattle.definitions.specs.Basics.{part}
 use Rattle.definitions.specs.Places.{newline}
 use Rattle.laws.proofs.Lists.{front-le}
-use Rattle.laws.proofs.Tests.{front-on, front-stop, front-end}
 use Rattle.lexer.specs.declared.tokens.Line.{Line}
 use Rattle.lexer.specs.Steps.{line_at}
 use Rattle.lexer.proofs.Lines.{line-first, line_on, line-next, line_small}
 use Rattle.words.specs.Words.{line_first, line_end, line}
-
-abbrev in_line : ℕ → Bool
-in_line b = not (eqb b newline)
 
 -- ---- where a line begins
 
@@ -38,30 +34,14 @@ module _ (s : List ℕ) where
     back : i - 1 + 1 ≡ i
     back = omega arith
 
-    pub first_next : get_or s (i - 1) 0 ≡ newline → i ≡ line_first s i
-    first_next e = sym (rw back at (ap (λ (l : Line). l.began) (line-next s (i - 1) (omega arith) e))) ∙ first-is i h
+    pub first_next : get_or s (i - 1) 0 ≡ newline → i - 1 + 1 ≡ line_first s i
+    first_next e = back ∙ sym (rw back at (ap (λ (l : Line). l.began) (line-next s (i - 1) (omega arith) e))) ∙ first-is i h
 
     pub first_on : (get_or s (i - 1) 0 ≡ newline → ⊥) → line_first s (i - 1) ≡ line_first s i
     first_on f =
         sym (first-is (i - 1) (omega arith))
         ∙ sym (rw back at (ap (λ (l : Line). l.began) (line_on s (i - 1) (omega arith) f)))
         ∙ first-is i h
-
--- ---- where it ends
-
-module _ (s : List ℕ) (i : ℕ) where
-  module _ (h : i < length s) where
-    pub end-here : get_or s i 0 ≡ newline → i ≡ line_end s i
-    unfolding line_end
-    end-here e = front-stop in_line s i h (simp (eq-eqb _ _ e))
-
-    pub end_on : (get_or s i 0 ≡ newline → ⊥) → line_end s (i + 1) ≡ line_end s i
-    unfolding line_end
-    end_on f = front-on in_line s i h (simp (ne_eqb _ _ f))
-
-  pub end-last : length s ≤ i → i ≡ line_end s i
-  unfolding line_end
-  end-last h = front-end in_line s i h
 
 -- ---- the line
 
@@ -77,7 +57,7 @@ module _ (s : List ℕ) (at : ℕ) where
     unfolding line_end
     line-inside =
         let k : line_first s at ≤ at = rw (first-is s at h) at (line_small s at).1 in
-        (omega arith, omega (arith, front-le in_line (drop at s), length-drop at s))
+        (omega arith, omega (arith, front-le (λ b. not (eqb b newline)) (drop at s), length-drop at s))
 
     pub line-there : part s a e ≡ line s at
     unfolding line

@@ -1,60 +1,33 @@
--- Words: what goes on a bad token, by its first byte; where a token begins and how far its word reaches, as the scanner answers it.
+-- Words: how long a bad token is; where a token begins and how far its word reaches, as the scanner answers it.
 use mathlib.Core.Path.{◌≡◌, refl, sym, ◌∙◌, ap}
 use Prim.Native.Nat.{ℕ, ◌+◌, ◌≤◌, ◌<◌}
-use mathlib.Core.Bool.{true, false, not, or-true, or-false}
+use mathlib.Core.Bool.{false}
 use mathlib.Core.List.{List, [], ◌∷◌}
 use mathlib.Core.Option.{Option, none, some}
 use native.Mathlib.Omega.{arith}
 use native.Mathlib.Numerals.{add-one}
-use lib.Dec.{eqb, leb}
+use lib.Dec.{eqb}
 use lib.ListN.{length, get_or, drop, length-drop}
 use lib.Seq.{drop-cons}
-use borrow.Author.Tests.{eq-eqb, ne_eqb, le-leb, lt-leb}
+use borrow.Author.Tests.{le-leb, lt-leb}
+use Rattle.std.specs.Prelude.{Result, Ok, Err}
+use Rattle.definitions.specs.declared.Refused.{Refused}
 use Rattle.definitions.specs.declared.Place.{Place}
 use Rattle.definitions.specs.declared.Token.{Token}
 use Rattle.definitions.specs.Basics.{part}
-use Rattle.definitions.specs.Classes.{class, goes_on, quote_class, symbol_class, digit_class, letter_class}
+use Rattle.definitions.specs.Classes.{class, quote_class, symbol_class, digit_class, letter_class}
 use Rattle.definitions.specs.Integers.{front, integer_length, runs_on}
-use Rattle.definitions.specs.Places.{newline, place_of}
-use Rattle.definitions.specs.Refusals.{most_text}
+use Rattle.definitions.specs.Places.{place_of}
+use Rattle.definitions.specs.Refusals.{most_text, bad_token}
+use Rattle.definitions.specs.Refused.{refused_as}
 use Rattle.definitions.specs.Tokens.{Scan, token, bad, inside, integer_scan, string_scan, scan_from, skip, scan}
 use Rattle.laws.proofs.Lists.{front-le}
 use Rattle.laws.proofs.Reach.{by-test, by-scan}
 use Rattle.lexer.specs.declared.tokens.Cursor.{Cursor}
-use Rattle.lexer.specs.declared.tokens.Step.{Step}
-use Rattle.lexer.specs.declared.tokens.Step.TheVariants as step
 use Rattle.lexer.specs.Steps.{step_of}
 use Rattle.words.specs.Words.{goes_with, bad_length, token_end, word_end, word}
 
--- ---- what goes on a bad token
-
-module _ (first b : ℕ) where
-  module _ (q : class first ≡ quote_class) where
-    pub string-ends : b ≡ newline → false ≡ goes_with first b
-    unfolding goes_with
-    string-ends e = simp (eq-eqb _ _ q, eq-eqb _ _ e)
-
-    pub string-on : (b ≡ newline → ⊥) → not (eqb b 0) ≡ goes_with first b
-    unfolding goes_with
-    string-on f = simp (eq-eqb _ _ q, ne_eqb _ _ f)
-
-  module _ (d : class first ≡ digit_class) where
-    pub number-point : b ≡ 46 → true ≡ goes_with first b
-    unfolding goes_with
-    number-point e = rw d (simp (eq-eqb _ _ e, or-true))
-
-    pub number-on : (b ≡ 46 → ⊥) → goes_on b ≡ goes_with first b
-    unfolding goes_with
-    number-on f = rw d (simp (ne_eqb _ _ f, or-false))
-
-  module _ (q : class first ≡ quote_class → ⊥) (d : class first ≡ digit_class → ⊥) where
-    pub alone : first < 128 → false ≡ goes_with first b
-    unfolding goes_with
-    alone h = simp (ne_eqb _ _ q, ne_eqb _ _ d, lt-leb 128 first h)
-
-    pub high-on : 128 ≤ first → leb 128 b ≡ goes_with first b
-    unfolding goes_with
-    high-on h = simp (ne_eqb _ _ q, ne_eqb _ _ d, le-leb 128 first h)
+-- ---- a bad token
 
 -- a bad token is its first byte and what goes on it
 pub bad-is : (s : List ℕ) (i : ℕ) → i < length s → i + 1 + front (goes_with (get_or s i 0)) (drop (i + 1) s) ≡ i + bad_length (drop i s)
@@ -95,44 +68,38 @@ starts s at = begins (place_of s (skip s at)) (drop (skip s at) s)
 
 -- ---- as the scanner answers it
 
-abbrev step_from : Step → ℕ
-step_from (step.Token t next) = t.start.offset
-step_from (step.Bad p) = p.offset
+-- the places of a step's word
+abbrev step_from : Result (Token × Cursor) Refused → ℕ
+step_from (Ok t) = t.0.start.offset
+step_from (Err r) = r.at.offset
 
-abbrev step_to : List ℕ → Step → ℕ
-step_to s (step.Token t next) = next.at
-step_to s (step.Bad p) = p.offset + bad_length (drop p.offset s)
+abbrev step_to : List ℕ → Result (Token × Cursor) Refused → ℕ
+step_to s (Ok t) = t.1.at
+step_to s (Err r) = r.at.offset + bad_length (drop r.at.offset s)
 
 module _ (s : List ℕ) (at : ℕ) where
-  step_from-is : step_from (step_of s (scan s at)) ≡ skip s at
-  step_from-is = go (scan s at) ∙ starts s at
-    where
-      go : (r : Scan) → step_from (step_of s r) ≡ start_of r
-      go (token t n) = refl
-      go (bad p) = refl
-
-  step-to : step_to s (step_of s (scan s at)) ≡ word_end s at
+  step_places : (step_from (step_of s (scan s at)) ≡ skip s at) × (step_to s (step_of s (scan s at)) ≡ word_end s at)
   unfolding word_end token_end
-  step-to = go (scan s at)
+  step_places = go (scan s at) (starts s at)
     where
-      go : (r : Scan) → step_to s (step_of s r) ≡ token_end s r
-      go (token t n) = refl
-      go (bad p) = refl
+      go : (r : Scan) → start_of r ≡ skip s at → (step_from (step_of s r) ≡ skip s at) × (step_to s (step_of s r) ≡ token_end s r)
+      go (token t n) h = (h, refl)
+      go (bad p) h = (h, refl)
 
-  module _ (st : Step) (e : st ≡ step_of s (scan s at)) where
-    pub token-part : (t : Token) (next : Cursor) → st ≡ step.Token t next → (t.start.offset ≡ skip s at) × (next.at ≡ word_end s at)
-    token-part t next g = (ap step_from (sym g ∙ e) ∙ step_from-is, ap (step_to s) (sym g ∙ e) ∙ step-to)
+  module _ (st : Result (Token × Cursor) Refused) (e : st ≡ step_of s (scan s at)) where
+    pub token-part : (t : Token × Cursor) → st ≡ Ok t → (t.0.start.offset ≡ skip s at) × (t.1.at ≡ word_end s at)
+    token-part t g = (ap step_from (sym g ∙ e) ∙ step_places.0, ap (step_to s) (sym g ∙ e) ∙ step_places.1)
 
-    pub bad-part : (p : Place) (end : ℕ) → st ≡ step.Bad p → end ≡ p.offset + bad_length (drop p.offset s) → (p.offset ≡ skip s at) × (end ≡ word_end s at)
-    bad-part p end g k = (ap step_from (sym g ∙ e) ∙ step_from-is, k ∙ ap (step_to s) (sym g ∙ e) ∙ step-to)
+    pub bad-part : (r : Refused) (end : ℕ) → st ≡ Err r → end ≡ r.at.offset + bad_length (drop r.at.offset s) → (r.at.offset ≡ skip s at) × (end ≡ word_end s at)
+    bad-part r end g k = (ap step_from (sym g ∙ e) ∙ step_places.0, k ∙ ap (step_to s) (sym g ∙ e) ∙ step_places.1)
 
   module _ (h : at ≤ length s) where
     -- a bad token's first byte is there
-    pub bad-inside : (p : Place) → step_of s (scan s at) ≡ step.Bad p → p.offset < length s
-    bad-inside p =
-        by-scan (λ (st : Step). st ≡ step.Bad p → p.offset < length s) s at h (step_of s)
-        (λ p₁ x e. let z : p₁ ≡ p = cc in rw z at x.within)
-        (λ t n x e. let z : ◌≡◌ {A = ℕ} 0 1 = cc in absurd (omega arith))
+    pub bad-inside : (r : Refused) → step_of s (scan s at) ≡ Err r → r.at.offset < length s
+    bad-inside r =
+        by-scan (λ (st : Result (Token × Cursor) Refused). st ≡ Err r → r.at.offset < length s) s at h (step_of s)
+        (λ p x e. let z : refused_as bad_token p ≡ r = cc in rw (← z) x.within)
+        (λ t n x e. cc)
 
     -- a word lies inside the text
     word-within : (skip s at ≤ word_end s at) × (word_end s at ≤ length s)

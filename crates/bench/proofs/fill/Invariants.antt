@@ -1,6 +1,6 @@
--- `bench::fill`: what is read so far lies within the room, which keeps its length.
-use Rattle.std.proofs.Common.{◌≤◌, ◌≡◌, length}
+-- `bench::fill`: what is read so far lies within the room.
+use Rattle.std.proofs.Common.{◌≤◌, length}
 use Rattle.bench.proofs.fill.Given as goal
 
 abbrev pub invariant-loop : goal.invariant-loop
-invariant-loop l = (l.n ≤ length l.room) × (length l.room ≡ length l.fn.room)
+invariant-loop l = l.n ≤ length l.room

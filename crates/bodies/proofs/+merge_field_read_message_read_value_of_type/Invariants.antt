@@ -3,21 +3,21 @@
 -- a field and a message count one more. The loop's invariant says what is read and stored so far.
 use Prim.Native.Nat.{◌+◌, ◌-◌, ◌*◌}
 use lib.ListN.{length}
-use Rattle.leaves.specs.Answers.{standing}
+use Rattle.entries.specs.Noted.{standing}
 use Rattle.bodies.proofs.Turns.{Rest}
 use Rattle.bodies.proofs.+merge_field_read_message_read_value_of_type.Given as goal
 
 abbrev pub invariant-read_message-loop-t : goal.invariant-read_message-loop-t
-invariant-read_message-loop-t l = Rest l.left l.image l.s l.w l.closer l.initial.q (standing l.q l.key l.value) l.l l.initial.nodes l.nodes l.initial.pool l.pool
+invariant-read_message-loop-t l = Rest l.left l.source.schema.image.now l.source.text.now l.w l.closer l.initial.here.spot (standing l.here.spot l.entry) l.here.line l.initial.nodes l.nodes l.initial.pool l.pool
 
 abbrev pub decreases-read_message-loop-t : goal.decreases-read_message-loop-t
-decreases-read_message-loop-t l = length l.s - l.q.at
+decreases-read_message-loop-t l = length l.source.text.now - l.here.spot.at
 
 abbrev pub decreases-merge_field : goal.decreases-merge_field
-decreases-merge_field l = 2 * (length l.s.now - l.q.at) + l.left + 1
+decreases-merge_field l = 2 * (length l.source.now.text.now - l.here.spot.at) + l.left + 1
 
 abbrev pub decreases-read_message : goal.decreases-read_message
-decreases-read_message l = 2 * (length l.s.now - l.q.at) + l.left + 1
+decreases-read_message l = 2 * (length l.source.now.text.now - l.here.spot.at) + l.left + 1
 
 abbrev pub decreases-read_value_of_type : goal.decreases-read_value_of_type
-decreases-read_value_of_type l = 2 * (length l.s.now - l.q.at) + l.left
+decreases-read_value_of_type l = 2 * (length l.source.now.text.now - l.here.spot.at) + l.left

@@ -4,4 +4,7 @@ use Rattle.bodies.proofs.Origin.{origin-fair, root-fits}
 use Rattle.bodies.proofs.read_root.Goals as goal
 
 pub read_message-requires : goal.read_message-requires
-read_message-requires c = (c.requires.0, c.requires.1, origin-fair _ c.requires.3, root-fits _ _ c.requires.2, refl)
+read_message-requires c = rw c.root_want-w.ensures (origin-fair _, root-fits _ _ c.requires, refl)
+
+pub returns : goal.returns
+returns c = rw c.root_want-w.ensures at c.read_message.ensures

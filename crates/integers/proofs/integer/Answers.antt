@@ -4,11 +4,11 @@ use native.Mathlib.Omega.{arith}
 use Rattle.integers.proofs.Digits.{narrow-over, narrow-past, narrow-worth}
 use Rattle.integers.proofs.integer.Goals as goal
 
-pub returns-in_default : goal.returns-in_default
-returns-in_default c = narrow-over _ c.args.most _ (omega arith) (sym c.magnitude.ensures ∙ c.in_default.is)
+pub returns-in_err-v : goal.returns-in_err-v
+returns-in_err-v c = c.from_residual.ensures ∙ narrow-over _ c.args.most _ (omega arith) (sym c.magnitude.ensures ∙ c.in_err-v.was)
 
 pub returns-then-most-v : goal.returns-then-most-v
-returns-then-most-v c = narrow-past _ _ _ _ (sym c.magnitude.ensures ∙ c.in-Worth.is) c.if-most-v.true
+returns-then-most-v c = narrow-past _ _ _ _ (sym c.magnitude.ensures ∙ c.in_ok-v.was) c.if-most-v.true
 
 pub returns : goal.returns
-returns c = narrow-worth _ _ _ _ (sym c.magnitude.ensures ∙ c.in-Worth.is) _ c.if-most-v.false c.signed.ensures
+returns c = narrow-worth _ _ _ _ (sym c.magnitude.ensures ∙ c.in_ok-v.was) _ c.if-most-v.false c.signed.ensures

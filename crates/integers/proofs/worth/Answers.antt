@@ -1,30 +1,26 @@
 -- `integers::worth` meets its contract. The invariant: what is read so far, with the digits left, is worth the whole, and fits.
-use mathlib.Core.Path.{refl, sym, ◌∙◌}
-use Prim.Native.Nat.{◌+◌, ◌*◌}
-use native.Mathlib.Omega.{arith}
-use lib.ListN.{get_or}
-use borrow.Author.Tests.{ltb-true, ltb-false}
+use Rattle.std.proofs.Common.{ℕ, ◌∙◌, refl, get_or, arith}
 use Rattle.integers.specs.Values.{greatest}
-use Rattle.integers.proofs.Digits.{reading-start, reading-on, reading-over, reading-done, digit_value-le}
+use Rattle.integers.proofs.Digits.{digit-sure, digit_value-le, reading-on, reading-over, reading-done}
+use Rattle.integers.proofs.worth.Goals.{then-n-sure, else-n-sure+in_ok-checked_mul+in_ok-n}
 use Rattle.integers.proofs.worth.Goals as goal
 
-pub loop-i-init : goal.loop-i-init
-loop-i-init c = reading-start _ _ _
+pub returns-in_err-checked_mul : goal.returns-in_err-checked_mul
+returns-in_err-checked_mul c =
+    let b : ℕ = get_or c.args.digits.now c.loop-b.b-index 0 in
+    c.from_residual.ensures ∙ reading-over _ _ _ _ _ c.loop-b.invariant c.loop-b-test.true refl (omega (arith, digit_value-le b, c.type_inv.digits c.loop-b.b-index)) (omega (arith, c.in_err-checked_mul.ensures))
 
-pub passes-requires : goal.passes-requires
-passes-requires c = (c.requires, omega (arith, c.digit_value-d.ensures, digit_value-le (get_or c.args.raw.now c.loop-i.i 0), c.type_inv.raw c.loop-i.i), refl)
+pub returns-in_err-n : goal.returns-in_err-n
+returns-in_err-n c =
+    c.from_residual-in_err-n.ensures ∙ reading-over _ _ _ _ _ c.loop-b.invariant c.loop-b-test.true c.digit_value.ensures (omega arith) (omega (arith, c.in_err-n.ensures, c.in_ok-checked_mul.ensures, c.from-d.ensures))
 
-pub returns-then-passes : goal.returns-then-passes
-returns-then-passes c = reading-over _ _ _ _ _ _ c.loop-i.invariant c.loop-i-test.true c.digit_value-d.ensures c.requires (ltb-true _ _ (sym c.passes.ensures ∙ c.if-passes.true))
-
-pub overflow_mul-n : goal.overflow_mul-n
-overflow_mul-n c = omega (arith, ltb-false greatest (c.loop-i.n * c.args.base + c.digit_value-d.result) (sym c.passes.ensures ∙ c.if-passes.false))
-
-pub overflow_add-n : goal.overflow_add-n
-overflow_add-n c = omega (arith, ltb-false greatest (c.loop-i.n * c.args.base + c.digit_value-d.result) (sym c.passes.ensures ∙ c.if-passes.false))
-
-pub loop-i-preserved : goal.loop-i-preserved
-loop-i-preserved c = reading-on _ _ _ _ _ _ c.loop-i.invariant c.loop-i-test.true c.digit_value-d.ensures (ltb-false _ _ (sym c.passes.ensures ∙ c.if-passes.false))
+pub loop-b-preserved : goal.loop-b-preserved
+loop-b-preserved c =
+    let on = reading-on _ _ _ _ _ c.loop-b.invariant c.loop-b-test.true c.digit_value.ensures in
+    elim c.if-n-sure.branch [
+      | then-n-sure w ↦ on _ (omega arith) (omega (arith, digit-sure c.args.base c.requires greatest 255 c.digit_value.result c.loop-b.n (omega arith) (omega arith) (omega arith)))
+      | else-n-sure+in_ok-checked_mul+in_ok-n w ↦ on _ (omega (arith, w.in_ok-n.ensures, w.in_ok-checked_mul.ensures)) (omega (arith, w.in_ok-n.ensures))
+    ]
 
 pub returns : goal.returns
-returns c = reading-done _ _ _ _ _ c.loop-i.invariant c.loop-i-test.false
+returns c = reading-done _ _ _ _ c.loop-b.invariant c.loop-b-test.false

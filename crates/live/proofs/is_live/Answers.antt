@@ -1,44 +1,25 @@
--- `live::is_live` meets its contract. The invariant: from the sibling that the walk has come to on, the node is replaced if and only if it is
--- replaced at all.
-use native.Mathlib.Omega.{arith}
+-- `live::is_live` meets its contract: how values of the node's rank share says what is asked of its later siblings.
 use mathlib.Core.Path.{sym, ◌∙◌}
-use Rattle.live.proofs.Lives.{live-fits, live_all, later-start, later-end, later-on, later_last, later-entries, later-key, later-unlike, later-other}
+use Rattle.live.proofs.Lives.{live-fits, live-after, live_all, live_last, live-entry, live-mapped, live_key}
 use Rattle.live.proofs.is_live.Goals as goal
-use Rattle.live.proofs.is_live.Goals.{then-rank-mine+else-how-eq0+else-same_key, else-rank-mine}
 
-pub node-n-requires : goal.node-n-requires
-node-n-requires c = omega (arith, c.requires.2.room, c.requires.3)
+pub sharing_at-requires : goal.sharing_at-requires
+sharing_at-requires c = (c.requires.0, live-fits _ _ _ _ _ _ c.requires.1 c.requires.2 _ c.node-n.ensures)
 
-pub sharing-how-requires : goal.sharing-how-requires
-sharing-how-requires c = (c.requires.0, c.requires.1, live-fits _ _ _ _ _ _ c.requires.2 c.requires.3 _ c.node-n.ensures)
+pub has-requires : goal.has-requires
+has-requires c = let x = live-after _ _ _ _ _ _ c.requires.1 c.requires.2 _ c.node-n.ensures in (x.tiled, x.room)
 
-pub returns-then-how-eq2 : goal.returns-then-how-eq2
-returns-then-how-eq2 c = live_all _ _ _ _ _ _ c.requires.2 c.requires.3 _ c.node-n.ensures _ c.sharing-how.ensures c.if-how-eq2.true
+pub has_key-requires : goal.has_key-requires
+has_key-requires c = (
+  live-entry _ _ _ _ _ _ c.requires.1 c.requires.2 _ c.node-n.ensures (sym c.sharing_at.ensures ∙ c.in-LastOfKey.is),
+  rw c.rank-in-LastOfKey.ensures (live-mapped _ _ _ _ _ _ c.requires.1 c.requires.2 _ c.node-n.ensures (sym c.sharing_at.ensures ∙ c.in-LastOfKey.is)),
+)
 
-pub loop-j-init : goal.loop-j-init
-loop-j-init c = later-start _ _ _ _ _ _ c.requires.2 c.requires.3 _ c.node-n.ensures _ c.sharing-how.ensures _ c.rank-mine.ensures
+pub returns-in-Last : goal.returns-in-Last
+returns-in-Last c = live_last _ _ _ _ _ _ c.requires.1 c.requires.2 _ c.node-n.ensures (sym c.sharing_at.ensures ∙ c.in-Last.is) _ (rw c.rank.ensures at (c.has.ensures c.args.pool.now))
 
-pub node-m-requires : goal.node-m-requires
-node-m-requires c = omega (arith, c.requires.2.room, c.loop-j-test.true)
+pub returns-in-LastOfKey : goal.returns-in-LastOfKey
+returns-in-LastOfKey c = live_key _ _ _ _ _ _ c.requires.1 c.requires.2 _ c.node-n.ensures (sym c.sharing_at.ensures ∙ c.in-LastOfKey.is) _ (rw c.rank-in-LastOfKey.ensures at c.has_key.ensures)
 
-pub returns-then-how-eq0 : goal.returns-then-how-eq0
-returns-then-how-eq0 c = later_last _ _ _ _ _ _ c.requires.2 c.requires.3 _ c.node-n.ensures _ c.sharing-how.ensures _ c.rank-mine.ensures _ c.loop-j.invariant c.loop-j-test.true _ c.node-m.ensures (sym c.rank.ensures ∙ c.if-rank-mine.true) c.if-how-eq0.true
-
-pub same_key-requires : goal.same_key-requires
-same_key-requires c = later-entries _ _ _ _ _ _ c.requires.2 c.requires.3 _ c.node-n.ensures _ c.sharing-how.ensures _ c.rank-mine.ensures _ c.loop-j.invariant c.loop-j-test.true _ c.node-m.ensures (sym c.rank.ensures ∙ c.if-rank-mine.true) c.if-how-eq0.false c.if-how-eq2.false
-
-pub returns-then-same_key : goal.returns-then-same_key
-returns-then-same_key c = later-key _ _ _ _ _ _ c.requires.2 c.requires.3 _ c.node-n.ensures _ c.sharing-how.ensures _ c.rank-mine.ensures _ c.loop-j.invariant c.loop-j-test.true _ c.node-m.ensures (sym c.rank.ensures ∙ c.if-rank-mine.true) c.if-how-eq0.false c.if-how-eq2.false (sym c.same_key.ensures ∙ c.if-same_key.true)
-
-pub loop-j-smaller : goal.loop-j-smaller
-loop-j-smaller c = omega (arith, later-on _ _ _ _ _ _ c.requires.2 c.requires.3 _ c.node-n.ensures _ c.sharing-how.ensures _ c.rank-mine.ensures _ c.loop-j.invariant c.loop-j-test.true _ c.node-m.ensures, c.loop-j-test.true)
-
-pub loop-j-preserved : goal.loop-j-preserved
-loop-j-preserved c =
-    elim c.if-rank-mine.branch [
-      | then-rank-mine+else-how-eq0+else-same_key w ↦ later-unlike _ _ _ _ _ _ c.requires.2 c.requires.3 _ c.node-n.ensures _ c.sharing-how.ensures _ c.rank-mine.ensures _ c.loop-j.invariant c.loop-j-test.true _ c.node-m.ensures (sym c.rank.ensures ∙ w.if-rank-mine.true) w.if-how-eq0.false c.if-how-eq2.false (sym w.same_key.ensures ∙ w.if-same_key.false)
-      | else-rank-mine w ↦ later-other _ _ _ _ _ _ c.requires.2 c.requires.3 _ c.node-n.ensures _ c.sharing-how.ensures _ c.rank-mine.ensures _ c.loop-j.invariant c.loop-j-test.true _ c.node-m.ensures (λ r. w.if-rank-mine.false (c.rank.ensures ∙ r))
-    ]
-
-pub returns : goal.returns
-returns c = later-end _ _ _ _ _ _ c.requires.2 c.requires.3 _ c.node-n.ensures _ c.sharing-how.ensures _ c.rank-mine.ensures _ c.loop-j.invariant c.loop-j-test.false
+pub returns-in-All : goal.returns-in-All
+returns-in-All c = live_all _ _ _ _ _ _ c.requires.1 c.requires.2 _ c.node-n.ensures (sym c.sharing_at.ensures ∙ c.in-All.is)

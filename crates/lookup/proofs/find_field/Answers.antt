@@ -1,44 +1,31 @@
--- `lookup::find_field` meets its contract: a guess of that name is the field found, as names stand apart.
-use mathlib.Core.Path.{◌≡◌, sym, ◌∙◌, ap}
-use Prim.Native.Nat.{ℕ, ◌+◌, ◌<◌}
-use mathlib.Core.Bool.{Bool, true, ◌&&◌}
-use mathlib.Core.List.{List}
-use mathlib.Core.Option.{some}
-use lib.Dec.{leb, ltb}
-use borrow.Author.Tests.{leb-true, ltb-true}
+-- `lookup::find_field` meets its contract: a guess of that name is the field found, as names stand apart; else the first field of the run
+-- that has the name.
+use Rattle.std.proofs.Common.{rules, ◌≡◌, ◌<◌, ℕ, Bool, true, false, arith, ◌∙◌, ap, refl, sym, List}
+use Rattle.std.proofs.lemmas.Iterator.{serves_from_Range, first_from_Range}
 use Rattle.definitions.specs.declared.Span.{Span}
-use Rattle.definitions.specs.Basics.{same, find}
-use Rattle.definitions.specs.Image.{message, message_count, field_count, field_name, find_field, accepted}
-use Rattle.records.specs.Known.{found_of}
-use Rattle.laws.proofs.Tests.{and_left, and_right}
-use Rattle.records.proofs.Accepted.{accepted-header, message-inside, field-own}
-use Rattle.records.proofs.Search.{run_fits}
+use Rattle.definitions.specs.Basics.{find, same}
+use Rattle.definitions.specs.Image.{field_name, field_count, find_field}
+use Rattle.records.specs.Known.{option_of}
+use Rattle.records.proofs.Room.{field_count-lt}
+use Rattle.records.proofs.Accepted.{known-message, field-own}
+use Rattle.records.proofs.Search.{first-found}
 use Rattle.lookup.proofs.find_field.Goals as goal
 
-abbrev guessed : List ℕ → List ℕ → ℕ → Span → Bool
-guessed s name i r = leb r.first i && ltb i (r.first + r.count) && same (field_name s i) name
+pub overflow_add-end : goal.overflow_add-end
+overflow_add-end c = omega (arith, field_count-lt c.args.schema.now.image.now, known-message c.args.schema.now.known c.args.index c.requires c.message-run.ensures)
 
-found-guess : (s : List ℕ) → accepted s ≡ true → (m : ℕ) → m < message_count s → (name : List ℕ) (i : ℕ) → guessed s name i (message s m) ≡ true → find_field s m name ≡ some i
-found-guess s good m here name i e =
-    let r = message s m in
-    let a = leb r.first i in
-    let b = ltb i (r.first + r.count) in
-    let c = same (field_name s i) name in
-    let ab : (a && b) ≡ true = and_left (a && b) c e in
-    field-own s good m here name i (leb-true r.first i (and_left a b ab)) (ltb-true i (r.first + r.count) (and_right a b ab)) (and_right (a && b) c e)
+pub field_name-requires : goal.field_name-requires
+field_name-requires c = omega (arith, known-message c.args.schema.now.known c.args.index c.requires c.message-run.ensures)
 
-pub message-run-requires : goal.message-run-requires
-message-run-requires c = ((accepted-header c.args.image.now c.requires.0.good).whole, c.requires.1)
+pub returns-then-same : goal.returns-then-same
+returns-then-same c = ap option_of (sym (field-own c.args.schema.now.image.now c.args.schema.now.known.good c.args.index c.requires c.args.name.now c.args.guess (rw (← c.message-run.ensures) c.if-run-guess.true) (rw (← c.message-run.ensures) c.if-guess-end.true) (ap (λ (t : List ℕ). same t c.args.name.now) (sym c.field_name.ensures) ∙ sym c.same.ensures ∙ c.if-same.true)))
 
-pub is_named-requires : goal.is_named-requires
-is_named-requires c = (c.requires.0, run_fits (message c.args.image.now c.args.index) (field_count c.args.image.now) c.message-run.ensures (message-inside c.args.image.now c.requires.0.good c.args.index c.requires.1))
-
-pub returns-then-is_named : goal.returns-then-is_named
-returns-then-is_named c = ap found_of (sym (found-guess c.args.image.now c.requires.0.good c.args.index c.requires.1 c.args.name.now c.args.guess (ap (guessed c.args.image.now c.args.name.now c.args.guess) (sym c.message-run.ensures) ∙ sym c.is_named.ensures ∙ c.if-is_named.true)))
-
-pub search_fields-requires : goal.search_fields-requires
-search_fields-requires c = (c.requires.0, run_fits (message c.args.image.now c.args.index) (field_count c.args.image.now) c.message-run.ensures (message-inside c.args.image.now c.requires.0.good c.args.index c.requires.1))
+pub find-requires-clause-callable : goal.find-requires-clause-callable
+find-requires-clause-callable c = serves_from_Range (λ x q k. search rules) (λ x a b. let h : x < field_count c.args.schema.now.image.now = omega (arith, known-message c.args.schema.now.known c.args.index c.requires c.message-run.ensures) in search rules)
 
 pub returns : goal.returns
 unfolding find_field
-returns c = c.search_fields.ensures ∙ ap (λ (r : Span). found_of (find (λ i. same (field_name c.args.image.now i) c.args.name.now) r.first r.count)) c.message-run.ensures
+returns c =
+    let p : ℕ → Bool = λ i. same (field_name c.args.schema.now.image.now i) c.args.name.now in
+    let h = first_from_Range _ _ _ _ (λ i. p i ≡ true) (λ i. p i ≡ false) c.find.ensures.ran (λ x q k. search rules) (λ x q k. search rules) in
+    first-found p _ _ _ _ refl h ∙ ap (λ (r : Span). option_of (find p r.first r.count)) c.message-run.ensures

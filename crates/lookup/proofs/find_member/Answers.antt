@@ -1,39 +1,24 @@
--- `lookup::find_member` meets its contract: what is left of the run finds what the whole run finds.
-use mathlib.Core.Path.{sym, ◌∙◌, ap}
-use Prim.Native.Nat.{ℕ, ◌<◌}
-use mathlib.Core.List.{List}
-use native.Mathlib.Omega.{arith}
-use Rattle.definitions.specs.Basics.{same}
-use Rattle.definitions.specs.Image.{enumeration, value_count, find_member}
+-- `lookup::find_member` meets its contract: the first value of the run that has the name.
+use Rattle.std.proofs.Common.{rules, ◌≡◌, ◌<◌, ℕ, Bool, true, false, arith, ◌∙◌, ap, refl}
+use Rattle.std.proofs.lemmas.Iterator.{serves_from_Range, first_from_Range}
+use Rattle.definitions.specs.declared.Span.{Span}
+use Rattle.definitions.specs.Basics.{find, same}
+use Rattle.definitions.specs.Image.{member_name, value_count, find_member}
+use Rattle.records.specs.Known.{option_of}
 use Rattle.records.proofs.Room.{value_count-lt}
-use Rattle.records.proofs.Accepted.{known-placed, enum-inside, member-has}
-use Rattle.records.proofs.Search.{left-run, run_fits, left-next, left-hit, left-none}
+use Rattle.records.proofs.Accepted.{known-enumeration}
+use Rattle.records.proofs.Search.{first-found}
 use Rattle.lookup.proofs.find_member.Goals as goal
-use Rattle.lookup.proofs.find_member.Invariants.{named}
-
-pub enumeration-run-requires : goal.enumeration-run-requires
-enumeration-run-requires c = (known-placed c.requires.0, c.requires.1)
 
 pub overflow_add-end : goal.overflow_add-end
-overflow_add-end c = omega (arith, value_count-lt c.args.image.now, run_fits (enumeration c.args.image.now c.args.index) (value_count c.args.image.now) c.enumeration-run.ensures (enum-inside c.args.image.now c.requires.0.good c.args.index c.requires.1))
+overflow_add-end c = omega (arith, value_count-lt c.args.schema.now.image.now, known-enumeration c.args.schema.now.known c.args.index c.requires c.enumeration-run.ensures)
 
-pub loop-i-init : goal.loop-i-init
-unfolding find_member
-loop-i-init c = left-run (named c.args.image.now c.args.name.now) (value_count c.args.image.now) (enumeration c.args.image.now c.args.index) c.enumeration-run.ensures (enum-inside c.args.image.now c.requires.0.good c.args.index c.requires.1)
-
-pub member_name-requires : goal.member_name-requires
-member_name-requires c =
-    let b : c.loop-i.i < value_count c.args.image.now = omega (arith, c.loop-i.invariant.inside, c.loop-i-test.true) in
-    (known-placed c.requires.0, b, (member-has c.args.image.now c.requires.0.good c.loop-i.i b).name.inside)
-
-pub returns-then-same : goal.returns-then-same
-returns-then-same c = left-hit (named c.args.image.now c.args.name.now) (value_count c.args.image.now) c.loop-i.invariant c.loop-i-test.true (ap (λ (t : List ℕ). same t c.args.name.now) (sym c.member_name.ensures) ∙ sym c.same.ensures ∙ c.if-same.true)
-
-pub overflow_add-i : goal.overflow_add-i
-overflow_add-i c = omega (arith, c.loop-i.invariant.inside, c.loop-i-test.true, value_count-lt c.args.image.now)
-
-pub loop-i-preserved : goal.loop-i-preserved
-loop-i-preserved c = left-next (named c.args.image.now c.args.name.now) (value_count c.args.image.now) c.loop-i.invariant c.loop-i-test.true (ap (λ (t : List ℕ). same t c.args.name.now) (sym c.member_name.ensures) ∙ sym c.same.ensures ∙ c.if-same.false)
+pub find-requires-clause-callable : goal.find-requires-clause-callable
+find-requires-clause-callable c = serves_from_Range (λ x q k. search rules) (λ x a b. let h : x < value_count c.args.schema.now.image.now = omega (arith, known-enumeration c.args.schema.now.known c.args.index c.requires c.enumeration-run.ensures) in search rules)
 
 pub returns : goal.returns
-returns c = left-none (named c.args.image.now c.args.name.now) (value_count c.args.image.now) c.loop-i.invariant c.loop-i-test.false
+unfolding find_member
+returns c =
+    let p : ℕ → Bool = λ i. same (member_name c.args.schema.now.image.now i) c.args.name.now in
+    let h = first_from_Range _ _ _ _ (λ i. p i ≡ true) (λ i. p i ≡ false) c.find.ensures.ran (λ x q k. search rules) (λ x q k. search rules) in
+    first-found p _ _ _ _ refl h ∙ ap (λ (r : Span). option_of (find p r.first r.count)) c.enumeration-run.ensures

@@ -1,14 +1,14 @@
--- `numbers::read_integer` meets its contract: another token, an integer over the most, and one that is worth something.
-use mathlib.Core.Path.{sym, ◌∙◌, refl}
+-- `numbers::read_integer` meets its contract: an integer over the most, and one that is worth something.
+use mathlib.Core.Path.{sym, ◌∙◌, ap}
+use Rattle.std.specs.Prelude.{Err}
 use Rattle.leaves.proofs.Returns.{no-answers, answers_by}
-use Rattle.leaves.proofs.Steps.{integer-other, integer-over, integer-worth}
+use Rattle.leaves.proofs.Steps.{integer-over, integer-worth}
 use Rattle.numbers.proofs.read_integer.Goals as goal
 
-pub returns-then-t-ne-INTEGER : goal.returns-then-t-ne-INTEGER
-returns-then-t-ne-INTEGER c = λ f. no-answers _ _ _ _ _ _ _ _ _ (integer-other _ c.args.w _ _ c.args.q _ _ c.if-t-ne-INTEGER.true) refl
-
 pub returns-in_default : goal.returns-in_default
-returns-in_default c = λ f. no-answers _ _ _ _ _ _ _ _ _ (integer-over _ c.args.w _ _ c.args.q _ _ c.if-t-ne-INTEGER.false (sym c.in_default.is ∙ c.integer.ensures)) refl
+returns-in_default c = λ f.
+    let o = integer-over _ c.args.w _ _ c.args.q c.args.t _ c.if-t-ne-INTEGER.false (rw c.bytes_of.ensures at (sym c.in_default.is ∙ c.integer.ensures)) in
+    no-answers _ _ _ _ _ _ _ _ _ o (ap Err c.at-in_default.ensures)
 
 pub returns : goal.returns
-returns c = λ f. answers_by _ _ _ _ _ _ _ _ (integer-worth _ c.args.w _ _ c.args.q _ _ c.if-t-ne-INTEGER.false _ (sym c.in-Worth.is ∙ c.integer.ensures)) (c.put_number.ensures _ c.requires.2 f)
+returns c = λ f. answers_by _ _ _ _ _ _ _ _ (integer-worth _ c.args.w _ _ c.args.q c.args.t _ c.if-t-ne-INTEGER.false _ (rw c.bytes_of.ensures at (sym c.in-Some.is ∙ c.integer.ensures))) (c.put_number.ensures _ c.requires.2 f)

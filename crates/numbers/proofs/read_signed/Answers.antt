@@ -1,32 +1,39 @@
 -- `numbers::read_signed` meets its contract: an integer's token at once, or a minus and then an integer's.
+use Rattle.std.proofs.lemmas.Result.{err_from_is_err_and}
 use mathlib.Core.Path.{◌∙◌, refl}
-use Rattle.laws.proofs.Reach.{reach}
-use Rattle.leaves.proofs.Returns.{no-answers, answers_by, answers-from}
-use Rattle.leaves.proofs.Steps.{scanned, scanned-line, fair-located, after-located, scanned-bad, bad-is, signed-bad, signed-plain, signed-minus, negated-bad, negated-on, reached}
+use Rattle.leaves.proofs.Returns.{answers_by, answers-from}
+use Rattle.leaves.proofs.Steps.{scanned, scanned-line, bad-answers, moved-fair, signed-bad, signed-plain, signed-minus, negated-bad, negated-on, reached}
 use Rattle.numbers.proofs.read_signed.Goals as goal
 
-pub next_from-st-requires : goal.next_from-st-requires
-next_from-st-requires c = (c.requires.0, fair-located _ _ c.requires.1)
-
-pub returns-in_default : goal.returns-in_default
-returns-in_default c = λ f. no-answers _ _ _ _ _ _ _ _ _ (signed-bad _ _ _ _ _ (scanned-bad _ _ _ _ c.next_from-st.ensures c.in_default.is)) (bad-is _ _ _ c.in_default.is c.bad.ensures)
+pub returns-in_err-t : goal.returns-in_err-t
+returns-in_err-t c = λ f.
+    let p = err_from_is_err_and c.from_residual.result c.from_residual.ensures.1 in
+    rw (p.1, p.2) (bad-answers _ _ _ _ _ _ _ _ _ c.in_err-t.ensures (signed-bad _ _ _ _))
 
 pub read_integer-requires : goal.read_integer-requires
-read_integer-requires c = (c.requires.2, reached _ _ _ _ c.requires.1.inside (scanned _ _ _ _ _ c.next_from-st.ensures c.in-Token.is), scanned-line _ _ _ _ _ c.next_from-st.ensures c.in-Token.is)
+read_integer-requires c = (c.requires.1, reached _ _ _ _ c.requires.0.inside (scanned _ _ _ _ c.in_ok-t.ensures), scanned-line _ _ _ _ c.in_ok-t.ensures)
 
 pub returns-then-t-ne-MINUS : goal.returns-then-t-ne-MINUS
-returns-then-t-ne-MINUS c = λ f. answers_by _ _ _ _ _ _ _ _ (signed-plain _ _ _ _ _ _ (scanned _ _ _ _ _ c.next_from-st.ensures c.in-Token.is) c.if-t-ne-MINUS.true ∙ rw c.most_signed-most.ensures refl) (c.read_integer.ensures f)
+returns-then-t-ne-MINUS c = λ f. answers_by _ _ _ _ _ _ _ _ (signed-plain _ _ _ _ _ _ (scanned _ _ _ _ c.in_ok-t.ensures) c.if-t-ne-MINUS.true ∙ rw c.most_signed-most.ensures refl) (c.read_integer.ensures f)
 
-pub next-digits-requires : goal.next-digits-requires
-next-digits-requires c = (c.requires.0, after-located _ _ _ _ c.requires.1 (scanned _ _ _ _ _ c.next_from-st.ensures c.in-Token.is) (scanned-line _ _ _ _ _ c.next_from-st.ensures c.in-Token.is))
+pub next-requires-2 : goal.next-requires-2
+next-requires-2 c = rw c.moved-digits.ensures (moved-fair _ _ _ _ c.requires.0 (scanned _ _ _ _ c.in_ok-t.ensures) (scanned-line _ _ _ _ c.in_ok-t.ensures))
 
-pub returns-in_default-digits : goal.returns-in_default-digits
-returns-in_default-digits c = λ f. no-answers _ _ _ _ _ _ _ _ _ (signed-minus _ _ _ _ _ _ (scanned _ _ _ _ _ c.next_from-st.ensures c.in-Token.is) c.if-t-ne-MINUS.false ∙ negated-bad _ _ _ _ _ (scanned-bad _ _ _ _ c.next-digits.ensures c.in_default-digits.is)) (bad-is _ _ _ c.in_default-digits.is c.bad-in_default-digits.ensures)
+pub returns-in_err-d : goal.returns-in_err-d
+returns-in_err-d c = λ f.
+    let p = err_from_is_err_and c.from_residual-in_err-d.result c.from_residual-in_err-d.ensures.1 in
+    rw (p.1, p.2) (bad-answers _ _ _ _ _ _ _ _ _ (rw c.moved-digits.ensures at c.in_err-d.ensures)
+    (λ a e. signed-minus _ _ _ _ _ _ (scanned _ _ _ _ c.in_ok-t.ensures) c.if-t-ne-MINUS.false ∙ negated-bad _ _ _ _ a e))
 
 pub read_integer-requires-2 : goal.read_integer-requires-2
 read_integer-requires-2 c =
-    let z = reach _ _ _ _ c.requires.1.inside (scanned _ _ _ _ _ c.next_from-st.ensures c.in-Token.is) in
-    (record { field = c.requires.2.field; node = c.requires.2.node; byte = c.requires.2.byte }, reached _ _ _ _ z.within (scanned _ _ _ _ _ c.next-digits.ensures c.in-Token-digits.is), scanned-line _ _ _ _ _ c.next-digits.ensures c.in-Token-digits.is)
+    let f = moved-fair _ _ _ _ c.requires.0 (scanned _ _ _ _ c.in_ok-t.ensures) (scanned-line _ _ _ _ c.in_ok-t.ensures) in
+    let e = rw c.moved-digits.ensures at c.in_ok-d.ensures in
+    (rw c.moved-digits.ensures (record { field = c.requires.1.field; node = c.requires.1.node; byte = c.requires.1.byte }), reached _ _ _ _ f.inside (scanned _ _ _ _ e), scanned-line _ _ _ _ e)
 
 pub returns : goal.returns
-returns c = λ f. answers_by _ _ _ _ _ _ _ _ (signed-minus _ _ _ _ _ _ (scanned _ _ _ _ _ c.next_from-st.ensures c.in-Token.is) c.if-t-ne-MINUS.false ∙ negated-on _ _ _ _ _ _ (scanned _ _ _ _ _ c.next-digits.ensures c.in-Token-digits.is) ∙ rw c.most_signed-most-2.ensures refl) (answers-from _ _ _ _ _ _ _ _ refl refl (c.read_integer-2.ensures f))
+returns c = λ f.
+    let e = rw c.moved-digits.ensures at c.in_ok-d.ensures in
+    answers_by _ _ _ _ _ _ _ _
+    (signed-minus _ _ _ _ _ _ (scanned _ _ _ _ c.in_ok-t.ensures) c.if-t-ne-MINUS.false ∙ negated-on _ _ _ _ _ _ (scanned _ _ _ _ e) ∙ rw c.most_signed-most-2.ensures refl)
+    (answers-from _ _ _ _ _ _ _ _ refl refl (rw c.moved-digits.ensures at (c.read_integer-2.ensures f)))

@@ -1,31 +1,28 @@
 -- `strings::escape_piece` meets its contract: each `return` has its law.
-use mathlib.Core.Path.{sym, ◌∙◌, ap}
-use Prim.Native.Nat.{◌+◌}
-use native.Mathlib.Omega.{arith}
+use Rattle.std.proofs.Common.{◌∙◌, sym, ap, rules, tests}
+use borrow.Author.Tests.{eqb-true, eqb-false}
+use Rattle.definitions.specs.Integers.{octal_digit, hex_digit}
 use Rattle.strings.specs.Values.{told}
-use Rattle.strings.proofs.Escaping.{escape_end, run_inside, escape-octal, escape-hex, escape-letter, octal-part, hex-none, hex-part}
+use Rattle.strings.proofs.Escaping.{escape_end, escape-octal, escape_none, escape-hex, escape-letter}
 use Rattle.strings.proofs.escape_piece.Goals as goal
 
-pub returns-then-raw-at : goal.returns-then-raw-at
-returns-then-raw-at c = sym (ap told (escape_end _ _ c.if-raw-at.true))
-
-pub slice_bounds-digits_piece-end : goal.slice_bounds-digits_piece-end
-slice_bounds-digits_piece-end c = run_inside c.args.raw.now c.args.at _ _ _ (omega arith) c.run-n.ensures
+pub returns-in_err-first : goal.returns-in_err-first
+returns-in_err-first c = c.from_residual.ensures ∙ ap told (sym (escape_end _ c.in_err-first.ensures.cases))
 
 pub returns-then-octal_digit : goal.returns-then-octal_digit
-returns-then-octal_digit c = c.digits_piece.ensures ∙ sym (ap told (escape-octal _ _ c.if-raw-at.false (sym c.octal_digit.ensures ∙ c.if-octal_digit.true) ∙ octal-part _ _ _ c.run-n.ensures))
+returns-then-octal_digit c =
+    let octal = sym c.octal_digit.ensures ∙ c.if-octal_digit.true in
+    c.digits_piece.ensures ∙ ap told (sym (escape-octal _ _ _ c.in_ok-first.ensures.cases.0 _ octal (c.digits-octal.ensures octal_digit (λ b r k. search (rules, tests)))))
 
-pub returns-then-n-eq0 : goal.returns-then-n-eq0
-returns-then-n-eq0 c = sym (ap told (escape-hex _ _ c.if-raw-at.false (sym c.octal_digit.ensures ∙ c.if-octal_digit.false) c.if-b-eq120.true ∙ hex-none c.args.raw.now (c.args.at + 1) _ c.run-n-then-b-eq120.ensures c.if-n-eq0.true))
+pub returns-then-is_empty : goal.returns-then-is_empty
+returns-then-is_empty c =
+    let other = sym c.octal_digit.ensures ∙ c.if-octal_digit.false in
+    ap told (sym (escape_none _ _ _ c.in_ok-first.ensures.cases.0 other _ c.if-first-eq120.true (c.digits-hex.ensures hex_digit (λ b r k. search (rules, tests))) (eqb-true _ _ (sym c.is_empty.ensures ∙ c.if-is_empty.true))))
 
-pub slice_bounds-digits_piece-end-then-b-eq120 : goal.slice_bounds-digits_piece-end-then-b-eq120
-slice_bounds-digits_piece-end-then-b-eq120 c = run_inside c.args.raw.now (c.args.at + 1) _ _ _ (omega arith) c.run-n-then-b-eq120.ensures
-
-pub returns-then-b-eq120 : goal.returns-then-b-eq120
-returns-then-b-eq120 c = c.digits_piece-then-b-eq120.ensures ∙ sym (ap told (escape-hex _ _ c.if-raw-at.false (sym c.octal_digit.ensures ∙ c.if-octal_digit.false) c.if-b-eq120.true ∙ hex-part c.args.raw.now (c.args.at + 1) _ c.run-n-then-b-eq120.ensures c.if-n-eq0.false))
-
-pub letter_piece-requires : goal.letter_piece-requires
-letter_piece-requires c = c.requires
+pub returns-then-first-eq120 : goal.returns-then-first-eq120
+returns-then-first-eq120 c =
+    let other = sym c.octal_digit.ensures ∙ c.if-octal_digit.false in
+    c.digits_piece-then-first-eq120.ensures ∙ ap told (sym (escape-hex _ _ _ c.in_ok-first.ensures.cases.0 other _ c.if-first-eq120.true (c.digits-hex.ensures hex_digit (λ b r k. search (rules, tests))) (eqb-false _ _ (sym c.is_empty.ensures ∙ c.if-is_empty.false))))
 
 pub returns : goal.returns
-returns c = c.letter_piece.ensures ∙ sym (ap told (escape-letter _ _ c.if-raw-at.false (sym c.octal_digit.ensures ∙ c.if-octal_digit.false) c.if-b-eq120.false))
+returns c = c.piece.ensures ∙ ap told (sym (escape-letter _ _ _ c.in_ok-first.ensures.cases.0 (sym c.octal_digit.ensures ∙ c.if-octal_digit.false) c.if-first-eq120.false))

@@ -1,32 +1,29 @@
 -- `survey::missing` meets its contract: all that lies below the root of a table that is taken.
 use native.Mathlib.Omega.{arith}
-use mathlib.Core.Path.{sym, ap, ◌∙◌}
+use mathlib.Core.Path.{ap, ◌∙◌}
 use Rattle.definitions.specs.Scope.{within}
-use Rattle.records.proofs.Accepted.{accepted-header}
+use Rattle.records.specs.Known.{option_of}
 use Rattle.nodes.proofs.Scopes.{within-root, there-root}
-use Rattle.validity.proofs.Root.{root-parts, root-end}
+use Rattle.validity.proofs.Root.{root-parts}
 use Rattle.validity.proofs.Values.{valid-root}
 use Rattle.live.proofs.Sounds.{sound-valid}
-use Rattle.survey.specs.Survey.{missing_of}
 use Rattle.survey.proofs.Lackings.{lacking-below}
 use Rattle.survey.proofs.Tables.{taken-parts, missing-none, missing-some}
 use Rattle.survey.proofs.missing.Goals as goal
 
-pub returns-then-not-is_taken : goal.returns-then-not-is_taken
-returns-then-not-is_taken c = ap missing_of (missing-none _ _ _ _ (sym c.is_taken.ensures ∙ c.if-not-is_taken.true))
+pub returns-in_err-schema : goal.returns-in_err-schema
+returns-in_err-schema c = c.from_residual.ensures ∙ ap option_of (missing-none _ _ _ _ c.in_err-schema.ensures)
 
-pub layout_of-layout-requires : goal.layout_of-layout-requires
-layout_of-layout-requires c = (accepted-header _ (taken-parts _ _ _ _ (sym c.is_taken.ensures ∙ c.if-not-is_taken.false)).good).long
-
-pub node-n-requires : goal.node-n-requires
-node-n-requires c = let r = root-parts _ (valid-root _ _ _ _ (taken-parts _ _ _ _ (sym c.is_taken.ensures ∙ c.if-not-is_taken.false)).valued) in omega (arith, r.some, r.room)
+pub table_end-requires : goal.table_end-requires
+table_end-requires c = let r = root-parts _ (valid-root _ _ _ _ (taken-parts _ _ _ _ c.in_ok-schema.ensures.0).valued) in omega (arith, r.some, r.room)
 
 pub lacking-requires : goal.lacking-requires
-lacking-requires c = (
-  record { right = c.layout_of-layout.ensures; good = (taken-parts _ _ _ _ (sym c.is_taken.ensures ∙ c.if-not-is_taken.false)).good },
-  there-root _ _ _ c.root_want-w.ensures (taken-parts _ _ _ _ (sym c.is_taken.ensures ∙ c.if-not-is_taken.false)).rooted,
-  rw (c.root_want-w.ensures, within-root _, root-end _ _ c.node-n.ensures) (sound-valid _ _ _ _ (taken-parts _ _ _ _ (sym c.is_taken.ensures ∙ c.if-not-is_taken.false)).valued),
-)
+lacking-requires c =
+    let k = taken-parts _ _ _ _ c.in_ok-schema.ensures.0 in
+    rw c.in_ok-schema.ensures.1
+    (there-root _ _ _ c.root_want.ensures k.rooted, rw (c.root_want.ensures, within-root _, c.table_end.ensures) (sound-valid _ _ _ _ k.valued))
 
 pub returns : goal.returns
-returns c = c.lacking.ensures ∙ ap missing_of (lacking-below _ _ _ _ _ (ap within c.root_want-w.ensures ∙ within-root _) _ (root-end _ _ c.node-n.ensures) ∙ missing-some _ _ _ _ (sym c.is_taken.ensures ∙ c.if-not-is_taken.false))
+returns c =
+    (rw c.in_ok-schema.ensures.1 at c.lacking.ensures)
+    ∙ ap option_of (lacking-below _ _ _ _ _ (ap within c.root_want.ensures ∙ within-root _) _ c.table_end.ensures ∙ missing-some _ _ _ _ c.in_ok-schema.ensures.0)

@@ -1,16 +1,18 @@
 -- `text_format::value_number` meets its contract.
+use mathlib.Core.Path.{◌∙◌}
 use Rattle.message.proofs.Lending.{valid-lendable}
-use Rattle.text_format.proofs.Tables.{bar-free, bar-some, value-barred, value-given, value_none}
+use Rattle.text_format.proofs.Opened.{passed_on, value-barred}
+use Rattle.text_format.proofs.Tables.{value-given, value_lacks}
 use Rattle.text_format.proofs.value_number.Goals as goal
 
-pub returns-then-why-ne0 : goal.returns-then-why-ne0
-returns-then-why-ne0 c = value-barred c.args.image.now c.args.root c.args.nodes.now c.args.pool.now _ _ (bar-some c.args.image.now c.args.root c.args.nodes.now c.args.pool.now _ c.table_bar-why.ensures c.if-why-ne0.true)
+pub returns-in_err-open_table : goal.returns-in_err-open_table
+returns-in_err-open_table c = passed_on _ _ c.from_residual.ensures.1 ∙ value-barred _ _ _ _ _ c.in_err-open_table.ensures
 
-pub value_run-run-requires : goal.value_run-run-requires
-value_run-run-requires c = (valid-lendable _ _ _ _ (bar-free c.args.image.now c.args.root c.args.nodes.now c.args.pool.now _ c.table_bar-why.ensures c.if-why-ne0.false).valued).root
+pub value_run-requires : goal.value_run-requires
+value_run-requires c = (valid-lendable _ _ _ _ c.in_ok-open_table.ensures.valued).root
 
-pub returns-in-At : goal.returns-in-At
-returns-in-At c = value-given c.args.image.now c.args.root c.args.nodes.now c.args.pool.now (bar-free c.args.image.now c.args.root c.args.nodes.now c.args.pool.now _ c.table_bar-why.ensures c.if-why-ne0.false) _ _ _ _ c.value_run-run.ensures c.in-At.is
+pub returns-then-is_none : goal.returns-then-is_none
+returns-then-is_none c = value_lacks _ _ _ _ c.in_ok-open_table.ensures c.at.ensures _ (rw c.value_run.ensures at c.if-is_none.ensures)
 
 pub returns : goal.returns
-returns c = value_none c.args.image.now c.args.root c.args.nodes.now c.args.pool.now (bar-free c.args.image.now c.args.root c.args.nodes.now c.args.pool.now _ c.table_bar-why.ensures c.if-why-ne0.false) _ _ c.value_run-run.ensures c.in_default.is
+returns c = value-given _ _ _ _ c.in_ok-open_table.ensures _ (rw c.value_run.ensures at c.if-is_none.ensures)

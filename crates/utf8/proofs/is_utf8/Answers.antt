@@ -1,17 +1,16 @@
--- `utf8::is_utf8` meets its contract. The invariant: the state now, taken along what is left, is the state at the end.
-use mathlib.Core.Path.{sym, ◌∙◌, ap}
-use lib.Dec.{eqb}
-use Rattle.definitions.specs.declared.Utf8.{Utf8}
-use Rattle.definitions.specs.Utf8.{utf8}
-use Rattle.utf8.proofs.Letters.{steps-more, steps-end, steps_front}
+-- `utf8::is_utf8` meets its contract: the state is stepped through what follows the letters of one byte at the front.
+use Rattle.std.proofs.Common.{rules, tests, ◌≡◌, drop, ◌∙◌}
+use Rattle.std.specs.List.{fold}
+use Rattle.std.proofs.lemmas.List.{take_rest}
+use Rattle.std.proofs.lemmas.Iterator.{YieldsList-from_slice}
+use Rattle.std.proofs.lemmas.Iterator.Consumers.{fold_from_yields_List}
+use Rattle.definitions.specs.Utf8.{whole, step}
+use Rattle.utf8.specs.Values.{ascii}
+use Rattle.utf8.proofs.Letters.{utf8-folded}
 use Rattle.utf8.proofs.is_utf8.Goals as goal
 
-pub loop-i-init : goal.loop-i-init
-loop-i-init c = rw c.ascii_end-i.ensures (steps_front _)
-
-pub loop-i-preserved : goal.loop-i-preserved
-loop-i-preserved c = steps-more _ _ _ _ c.loop-i-test.true c.step-u.ensures ∙ c.loop-i.invariant
-
 pub returns : goal.returns
-unfolding utf8
-returns c = ap (λ (u : Utf8). eqb u.left 0) (sym (steps-end _ _ _ c.loop-i-test.false) ∙ c.loop-i.invariant)
+returns c =
+    let rest = c.iter.ensures.rest ∙ take_rest c.args.s.now c.front-plain.result in
+    let end : c.fold-end.result ≡ fold step whole (drop c.front-plain.result c.args.s.now) = fold_from_yields_List _ step _ c.fold-end.result c.fold-end.ensures.ran (YieldsList-from_slice _ rest) (λ u b v q k. search (rules, tests)) in
+    utf8-folded _ _ _ (c.front-plain.ensures.passed ascii (λ b r k. search (rules, tests))) end

@@ -8,13 +8,13 @@ use Rattle.validity.proofs.Spans.{span-end, span-parts, turn-bad, turn-deep, tur
 use Rattle.validity.proofs.+span_good.Goals as goal
 
 pub loop-i-init : goal.loop-i-init
-loop-i-init t c = (omega arith, omega (arith, c.requires.2), refl)
+loop-i-init t c = (omega arith, omega (arith, c.requires.1), refl)
 
 pub node-n-requires : goal.node-n-requires
-node-n-requires t c = omega (arith, c.requires.3, c.loop-i-test.true)
+node-n-requires t c = omega (arith, c.requires.2, c.loop-i-test.true)
 
 pub node_good-requires : goal.node_good-requires
-node_good-requires t c = (c.requires.0, c.requires.1)
+node_good-requires t c = (c.requires.0, c.fields_of-own.ensures)
 
 pub returns-then-not-node_good : goal.returns-then-not-node_good
 returns-then-not-node_good t c = turn-bad _ _ _ _ _ _ _ c.loop-i-test.true _ c.node-n.ensures (sym c.node_good.ensures ∙ c.if-not-node_good.true) ∙ sym c.loop-i.invariant.2
@@ -23,7 +23,7 @@ pub returns-then-left-eq0 : goal.returns-then-left-eq0
 returns-then-left-eq0 t c = turn-deep _ _ _ _ _ _ _ c.loop-i-test.true _ c.node-n.ensures (sym c.nests.ensures ∙ c.if-nests.true) c.if-left-eq0.true ∙ sym c.loop-i.invariant.2
 
 pub want-inner-requires : goal.want-inner-requires
-want-inner-requires t c = (c.requires.0, c.requires.1, (fits-known _ _ _ (node-parts _ _ _ _ _ _ (sym c.node_good.ensures ∙ c.if-not-node_good.false)).fits (nests-known c.node-n.result.kind (sym c.nests.ensures ∙ c.if-nests.true))).0)
+want-inner-requires t c = (c.requires.0, (fits-known _ _ _ (node-parts _ _ _ _ _ _ (sym c.node_good.ensures ∙ c.if-not-node_good.false)).fits (nests-known c.node-n.result.kind (sym c.nests.ensures ∙ c.if-nests.true))).0)
 
 pub overflow_add-i : goal.overflow_add-i
 overflow_add-i t c = let g = node-parts _ _ _ _ _ _ (sym c.node_good.ensures ∙ c.if-not-node_good.false) in omega (arith, c.loop-i-test.true, c.ranges)
@@ -33,7 +33,7 @@ span_good-requires t c =
     let g = node-parts _ _ _ _ _ _ (sym c.node_good.ensures ∙ c.if-not-node_good.false) in
     let f = fits-known _ _ _ g.fits (nests-known c.node-n.result.kind (sym c.nests.ensures ∙ c.if-nests.true)) in (
       omega (arith, c.decreases, c.loop-i.invariant.0, g.on, g.inside),
-      (c.requires.0, rw c.want-inner.ensures (there-want _ c.requires.0.good _ _ c.requires.1 f.0 (rw f.1 at (sym c.nests.ensures ∙ c.if-nests.true))), omega (arith, g.on), omega (arith, c.requires.3, g.inside)),
+      (rw c.want-inner.ensures (there-want _ c.args.schema.now.known.good _ _ c.requires.0 f.0 (rw f.1 at (sym c.nests.ensures ∙ c.if-nests.true))), omega (arith, g.on), omega (arith, c.requires.2, g.inside)),
     )
 
 pub returns-then-not-span_good : goal.returns-then-not-span_good
@@ -45,7 +45,7 @@ overflow_add-i-then-nests t c = omega (arith, c.loop-i-test.true, c.ranges)
 pub entry_good-requires : goal.entry_good-requires
 entry_good-requires t c =
     let g = node-parts _ _ _ _ _ _ (sym c.node_good.ensures ∙ c.if-not-node_good.false) in
-    ((span-parts _ _ _ _ _ _ _ (sym c.span_good.ensures ∙ c.if-not-span_good.false)).tiled, omega (arith, c.requires.3, g.inside))
+    ((span-parts _ _ _ _ _ _ _ (sym c.span_good.ensures ∙ c.if-not-span_good.false)).tiled, omega (arith, c.requires.2, g.inside))
 
 pub returns-then-not-entry_good : goal.returns-then-not-entry_good
 returns-then-not-entry_good t c = turn-entry _ _ _ _ _ _ _ c.loop-i-test.true _ c.node-n.ensures (sym c.entry_good.ensures ∙ c.if-not-entry_good.true) ∙ sym c.loop-i.invariant.2

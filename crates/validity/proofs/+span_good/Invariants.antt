@@ -7,7 +7,7 @@ use Rattle.nodes.specs.Span.{span_good}
 use Rattle.validity.proofs.+span_good.Given as goal
 
 abbrev pub invariant-loop-i : goal.invariant-loop-i
-invariant-loop-i l = (l.from ≤ l.i) × (l.i ≤ l.to) × (span_good l.image l.pool (within l.w) l.left l.nodes l.from l.to ≡ span_good l.image l.pool (within l.w) l.left l.nodes l.i l.to)
+invariant-loop-i l = (l.from ≤ l.i) × (l.i ≤ l.to) × (span_good l.schema.image.now l.pool (within l.w) l.left l.nodes l.from l.to ≡ span_good l.schema.image.now l.pool (within l.w) l.left l.nodes l.i l.to)
 
 abbrev pub decreases-loop-i : goal.decreases-loop-i
 decreases-loop-i l = l.to - l.i

@@ -1,11 +1,7 @@
 -- `words::line_at` meets its contract. The invariant: `line` is the line of `i`.
 use mathlib.Core.Path.{◌≡◌}
-use Prim.Native.Nat.{◌-◌, ◌≤◌}
 use Rattle.lexer.specs.Steps.{line_at}
 use Rattle.words.proofs.line_at.Given as goal
 
 abbrev pub invariant-loop-i : goal.invariant-loop-i
-invariant-loop-i l = (l.i ≤ l.at) × (l.line ≡ line_at l.text l.i)
-
-abbrev pub decreases-loop-i : goal.decreases-loop-i
-decreases-loop-i l = l.at - l.i
+invariant-loop-i l = l.line ≡ line_at l.text l.i

@@ -1,4 +1,4 @@
--- `words::line_first` meets its contract. The invariant: the line of `first` begins where the line of the start begins.
+-- `words::line_first` meets its contract. The invariant: the line of `i` begins where the line of the offset begins.
 use mathlib.Core.Path.{◌≡◌, refl, ◌∙◌}
 use native.Mathlib.Omega.{arith}
 use Rattle.words.proofs.Lines.{first_past, first-zero, first_next, first_on}
@@ -7,16 +7,16 @@ use Rattle.words.proofs.line_first.Goals as goal
 pub returns-then-text-at : goal.returns-then-text-at
 returns-then-text-at c = first_past _ _ c.if-text-at.true
 
-pub loop-first-init : goal.loop-first-init
-loop-first-init c = (c.if-text-at.false, refl)
+pub loop-i-init : goal.loop-i-init
+loop-i-init c = refl
 
-pub returns-then-text-before-eq10 : goal.returns-then-text-before-eq10
-returns-then-text-before-eq10 c = first_next _ _ c.loop-first-test.true c.loop-first.invariant.0 c.if-text-before-eq10.true ∙ c.loop-first.invariant.1
+pub returns-then-text-i-eq10 : goal.returns-then-text-i-eq10
+returns-then-text-i-eq10 c = first_next _ _ c.loop-i-test.true (omega arith) c.if-text-i-eq10.true ∙ c.loop-i.invariant
 
-pub loop-first-preserved : goal.loop-first-preserved
-loop-first-preserved c = (omega arith, first_on _ _ c.loop-first-test.true c.loop-first.invariant.0 c.if-text-before-eq10.false ∙ c.loop-first.invariant.1)
+pub loop-i-preserved : goal.loop-i-preserved
+loop-i-preserved c = first_on _ _ c.loop-i-test.true (omega arith) c.if-text-i-eq10.false ∙ c.loop-i.invariant
 
 pub returns : goal.returns
 returns c =
-    let z : c.loop-first.first ≡ 0 = omega arith in
-    z ∙ first-zero c.args.text.now ∙ rw z at c.loop-first.invariant.1
+    let z : c.loop-i.i ≡ 0 = omega arith in
+    first-zero c.args.text.now ∙ rw z at c.loop-i.invariant

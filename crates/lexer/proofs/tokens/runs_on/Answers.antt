@@ -10,5 +10,5 @@ returns-then-text-at c = runs-end _ _ c.if-text-at.true
 pub returns-then-b-eq46 : goal.returns-then-b-eq46
 returns-then-b-eq46 c = rw (runs-at _ _ c.if-text-at.false) (simp (eq-eqb _ _ c.if-b-eq46.true, or-true))
 
-pub returns : goal.returns
-returns c = rw (runs-at _ _ c.if-text-at.false) (simp (ne_eqb _ _ c.if-b-eq46.false, or-false, c.class_of.ensures.0))
+pub returns-else-b-eq46 : goal.returns-else-b-eq46
+returns-else-b-eq46 c = rw (runs-at _ _ c.if-text-at.false) (simp (ne_eqb _ _ c.if-b-eq46.false, or-false, c.class.ensures.0))

@@ -2,8 +2,8 @@
 use borrow.Author.Tests.{le-leb, lt-leb}
 use Rattle.lexer.proofs.tokens.separates.Goals as goal
 
-pub returns-then-class-lt-NEWLINE : goal.returns-then-class-lt-NEWLINE
-returns-then-class-lt-NEWLINE c = simp (lt-leb _ _ c.if-class-lt-NEWLINE.true)
+pub returns-then-class-ge-NEWLINE : goal.returns-then-class-ge-NEWLINE
+returns-then-class-ge-NEWLINE c = simp (le-leb _ _ c.if-class-ge-NEWLINE.true)
 
-pub returns : goal.returns
-returns c = simp (le-leb _ _ c.if-class-lt-NEWLINE.false)
+pub returns-else-class-ge-NEWLINE : goal.returns-else-class-ge-NEWLINE
+returns-else-class-ge-NEWLINE c = simp (lt-leb _ _ c.if-class-ge-NEWLINE.false)

@@ -4,17 +4,17 @@ use mathlib.Core.Path.{sym, ◌∙◌}
 use Rattle.message.proofs.Lending.{lent_none, lent-part, lent-inside}
 use Rattle.message.proofs.access.value_bytes.Goals as goal
 
-pub value_run-run-requires : goal.value_run-run-requires
-value_run-run-requires c = c.requires.root
+pub value_run-requires : goal.value_run-requires
+value_run-requires c = c.requires.root
 
 pub returns-in_default : goal.returns-in_default
-returns-in_default c = lent_none _ _ _ (sym c.value_run-run.ensures ∙ c.in_default.is)
+returns-in_default c = lent_none _ _ _ (sym c.value_run.ensures ∙ c.in_default.is)
 
-pub overflow_add-end : goal.overflow_add-end
-overflow_add-end c = let x = lent-inside _ _ _ c.requires _ _ (sym c.value_run-run.ensures ∙ c.in-At.is) in omega (arith, c.well_formed)
+pub overflow_add-result : goal.overflow_add-result
+overflow_add-result c = omega (arith, lent-inside _ _ _ _ (sym c.value_run.ensures ∙ c.in-Some.is) c.requires, c.well_formed)
 
 pub slice_bounds-result-end-2 : goal.slice_bounds-result-end-2
-slice_bounds-result-end-2 c = let x = lent-inside _ _ _ c.requires _ _ (sym c.value_run-run.ensures ∙ c.in-At.is) in omega arith
+slice_bounds-result-end-2 c = let x = lent-inside _ _ _ _ (sym c.value_run.ensures ∙ c.in-Some.is) c.requires in omega arith
 
 pub returns : goal.returns
-returns c = lent-part _ _ _ _ _ (sym c.value_run-run.ensures ∙ c.in-At.is)
+returns c = lent-part _ _ _ _ (sym c.value_run.ensures ∙ c.in-Some.is)

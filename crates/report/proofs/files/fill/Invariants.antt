@@ -1,9 +1,6 @@
--- `report::files::fill` is safe and ends. The measure is turns. Assumes nothing.
-use Rattle.std.proofs.Common.{◌≡◌, length}
+-- `report::files::fill` is safe and ends: what was read lies in the room. Assumes nothing.
+use Rattle.std.proofs.Common.{◌≤◌, length}
 use Rattle.report.proofs.files.fill.Given as goal
 
-abbrev pub invariant-loop-turns : goal.invariant-loop-turns
-invariant-loop-turns g l = length l.room ≡ length l.initial.room
-
-abbrev pub decreases-loop-turns : goal.decreases-loop-turns
-decreases-loop-turns g l = l.turns
+abbrev pub invariant-loop : goal.invariant-loop
+invariant-loop g l = l.n ≤ length l.room

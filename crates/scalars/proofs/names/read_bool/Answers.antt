@@ -1,42 +1,35 @@
 -- `scalars::names::read_bool` meets its contract: a bad token, no name, `true`, `false`, another name.
-use mathlib.Core.Path.{sym, ◌∙◌, refl}
-use native.Mathlib.Omega.{arith}
+use mathlib.Core.Path.{ap}
+use Rattle.std.specs.Prelude.{Err}
+use Rattle.std.proofs.lemmas.Result.{err_from_is_err_and}
 use Rattle.leaves.proofs.Returns.{no-answers, answers_by}
-use Rattle.leaves.proofs.Steps.{fair-located, scanned-line, scanned, scanned-bad, bad-is, reached, bool-bad, bool-other, bool-true, bool_false, bool-neither}
+use Rattle.leaves.proofs.Steps.{scanned, scanned-line, bad-answers, reached, tested-same, bool-bad, bool-other, bool-true, bool_false, bool-neither}
 use Rattle.scalars.proofs.names.read_bool.Goals as goal
 
-pub next_from-st-requires : goal.next_from-st-requires
-next_from-st-requires c = (c.requires.0, fair-located _ _ c.requires.1)
-
-pub returns-in_default : goal.returns-in_default
-returns-in_default c = λ f. no-answers _ _ _ _ _ _ _ _ _ (bool-bad _ _ _ _ (scanned-bad _ _ _ _ c.next_from-st.ensures c.in_default.is)) (bad-is _ _ _ c.in_default.is c.bad.ensures)
+pub returns-in_err-t : goal.returns-in_err-t
+returns-in_err-t c = λ f.
+    let p = err_from_is_err_and c.from_residual.result c.from_residual.ensures.1 in
+    rw (p.1, p.2) (bad-answers _ _ _ _ _ _ _ _ _ c.in_err-t.ensures (bool-bad _ _ _))
 
 pub returns-then-t-ne-NAME : goal.returns-then-t-ne-NAME
-returns-then-t-ne-NAME c = λ f. no-answers _ _ _ _ _ _ _ _ _ (bool-other _ _ _ _ _ (scanned _ _ _ _ _ c.next_from-st.ensures c.in-Token.is) c.if-t-ne-NAME.true) refl
+returns-then-t-ne-NAME c = λ f. no-answers _ _ _ _ _ _ _ _ _ (bool-other _ _ _ _ _ (scanned _ _ _ _ c.in_ok-t.ensures) c.if-t-ne-NAME.true) (ap Err c.at.ensures)
 
-pub slice_bounds-same-count : goal.slice_bounds-same-count
-slice_bounds-same-count c = let z = reached _ _ _ _ c.requires.1.inside (scanned _ _ _ _ _ c.next_from-st.ensures c.in-Token.is) in omega (arith, z.forward, z.inside)
+pub bytes_of-name-requires : goal.bytes_of-name-requires
+bytes_of-name-requires c = reached _ _ _ _ c.requires.0.inside (scanned _ _ _ _ c.in_ok-t.ensures)
 
-pub slice_bounds-same-start : goal.slice_bounds-same-start
-slice_bounds-same-start c = let z = reached _ _ _ _ c.requires.1.inside (scanned _ _ _ _ _ c.next_from-st.ensures c.in-Token.is) in omega (arith, z.forward, z.inside)
+pub returns-then-eq : goal.returns-then-eq
+returns-then-eq c = λ f.
+    let t = tested-same _ _ _ _ _ c.if-eq.ensures c.bytes_of-name.ensures c.as_slice.ensures in
+    answers_by _ _ _ _ _ _ _ _ (bool-true _ c.args.w c.args.here.spot _ _ (scanned _ _ _ _ c.in_ok-t.ensures) c.if-t-ne-NAME.false t) (c.put_number.ensures _ (scanned-line _ _ _ _ c.in_ok-t.ensures) f)
 
-pub slice_bounds-same-end-2 : goal.slice_bounds-same-end-2
-slice_bounds-same-end-2 c = let z = reached _ _ _ _ c.requires.1.inside (scanned _ _ _ _ _ c.next_from-st.ensures c.in-Token.is) in omega (arith, z.forward, z.inside)
-
-pub returns-then-same : goal.returns-then-same
-returns-then-same c = λ f. answers_by _ _ _ _ _ _ _ _ (bool-true _ c.args.w c.args.q _ _ (scanned _ _ _ _ _ c.next_from-st.ensures c.in-Token.is) c.if-t-ne-NAME.false (sym c.if-same.true ∙ c.same.ensures)) (c.put_number.ensures _ (scanned-line _ _ _ _ _ c.next_from-st.ensures c.in-Token.is) f)
-
-pub slice_bounds-same-count-2 : goal.slice_bounds-same-count-2
-slice_bounds-same-count-2 c = let z = reached _ _ _ _ c.requires.1.inside (scanned _ _ _ _ _ c.next_from-st.ensures c.in-Token.is) in omega (arith, z.forward, z.inside)
-
-pub slice_bounds-same-start-2 : goal.slice_bounds-same-start-2
-slice_bounds-same-start-2 c = let z = reached _ _ _ _ c.requires.1.inside (scanned _ _ _ _ _ c.next_from-st.ensures c.in-Token.is) in omega (arith, z.forward, z.inside)
-
-pub slice_bounds-same-end-4 : goal.slice_bounds-same-end-4
-slice_bounds-same-end-4 c = let z = reached _ _ _ _ c.requires.1.inside (scanned _ _ _ _ _ c.next_from-st.ensures c.in-Token.is) in omega (arith, z.forward, z.inside)
-
-pub returns-then-same-2 : goal.returns-then-same-2
-returns-then-same-2 c = λ f. answers_by _ _ _ _ _ _ _ _ (bool_false _ c.args.w c.args.q _ _ (scanned _ _ _ _ _ c.next_from-st.ensures c.in-Token.is) c.if-t-ne-NAME.false (sym c.if-same.false ∙ c.same.ensures) (sym c.if-same-2.true ∙ c.same-2.ensures)) (c.put_number-then-same-2.ensures _ (scanned-line _ _ _ _ _ c.next_from-st.ensures c.in-Token.is) f)
+pub returns-then-eq-2 : goal.returns-then-eq-2
+returns-then-eq-2 c = λ f.
+    let t = tested-same _ _ _ _ _ c.if-eq.ensures c.bytes_of-name.ensures c.as_slice.ensures in
+    let u = tested-same _ _ _ _ _ c.if-eq-2.ensures c.bytes_of-name.ensures c.as_slice-2.ensures in
+    answers_by _ _ _ _ _ _ _ _ (bool_false _ c.args.w c.args.here.spot _ _ (scanned _ _ _ _ c.in_ok-t.ensures) c.if-t-ne-NAME.false t u) (c.put_number-then-eq-2.ensures _ (scanned-line _ _ _ _ c.in_ok-t.ensures) f)
 
 pub returns : goal.returns
-returns c = λ f. no-answers _ _ _ _ _ _ _ _ _ (bool-neither _ c.args.w c.args.q _ _ (scanned _ _ _ _ _ c.next_from-st.ensures c.in-Token.is) c.if-t-ne-NAME.false (sym c.if-same.false ∙ c.same.ensures) (sym c.if-same-2.false ∙ c.same-2.ensures)) refl
+returns c = λ f.
+    let t = tested-same _ _ _ _ _ c.if-eq.ensures c.bytes_of-name.ensures c.as_slice.ensures in
+    let u = tested-same _ _ _ _ _ c.if-eq-2.ensures c.bytes_of-name.ensures c.as_slice-2.ensures in
+    no-answers _ _ _ _ _ _ _ _ _ (bool-neither _ c.args.w c.args.here.spot _ _ (scanned _ _ _ _ c.in_ok-t.ensures) c.if-t-ne-NAME.false t u) (ap Err c.at-2.ensures)

@@ -7,20 +7,20 @@ use Rattle.spelling.proofs.strings.print_str_to.Goals as goal
 pub put_byte-after-requires : goal.put_byte-after-requires
 put_byte-after-requires c = quoted-room-first _ c.requires
 
-pub loop-i-init : goal.loop-i-init
-loop-i-init c = (search rules, quoted-none _ c.args.s.now _)
+pub loop-b-init : goal.loop-b-init
+loop-b-init c = (search rules, quoted-none _ c.args.s.now _)
 
 pub quote_byte_to-after-requires : goal.quote_byte_to-after-requires
-quote_byte_to-after-requires c = quoted-room _ _ c.loop-i-test.true c.requires c.put_byte-after.ensures c.loop-i.invariant.1
+quote_byte_to-after-requires c = quoted-room _ _ c.loop-b-test.true c.requires c.put_byte-after.ensures c.loop-b.invariant.1
 
-pub loop-i-preserved : goal.loop-i-preserved
-loop-i-preserved c = (search rules, quoted-more _ _ c.loop-i-test.true c.loop-i.invariant.1 c.quote_byte_to-after.ensures)
+pub loop-b-preserved : goal.loop-b-preserved
+loop-b-preserved c = (search rules, quoted-more _ _ c.loop-b-test.true c.loop-b.invariant.1 c.quote_byte_to-after.ensures)
 
 pub put_byte-requires : goal.put_byte-requires
-put_byte-requires c = quoted-room-last _ c.loop-i.i c.requires c.put_byte-after.ensures c.loop-i.invariant.1
+put_byte-requires c = quoted-room-last _ c.loop-b.b-index c.requires c.put_byte-after.ensures c.loop-b.invariant.1
 
 pub shape_of-buffer : goal.shape_of-buffer
-shape_of-buffer c = written-length (quoted-end _ _ c.loop-i-test.false c.put_byte-after.ensures c.loop-i.invariant.1 c.put_byte.ensures)
+shape_of-buffer c = written-length (quoted-end _ _ c.loop-b-test.false c.put_byte-after.ensures c.loop-b.invariant.1 c.put_byte.ensures)
 
 pub returns : goal.returns
-returns c = quoted-end _ _ c.loop-i-test.false c.put_byte-after.ensures c.loop-i.invariant.1 c.put_byte.ensures
+returns c = quoted-end _ _ c.loop-b-test.false c.put_byte-after.ensures c.loop-b.invariant.1 c.put_byte.ensures

@@ -1,0 +1,2 @@
+-- What is noted of an entry, and what its defaults are.
+pub mod Noted

@@ -1,0 +1,2 @@
+-- The words of the crate's contracts.
+pub mod Computes

@@ -1,9 +1,0 @@
--- `nodes::want_in` meets its contract.
-use borrow.Author.Tests.{eq-eqb, ne_eqb}
-use Rattle.nodes.proofs.want_in.Goals as goal
-
-pub returns-then-i-eq0 : goal.returns-then-i-eq0
-returns-then-i-eq0 c = simp (eq-eqb _ _ c.if-i-eq0.true)
-
-pub returns : goal.returns
-returns c = simp (ne_eqb _ _ c.if-i-eq0.false)

@@ -1,9 +1,0 @@
--- `report::place::put_shown` is safe and ends. The measure is length s - i. Assumes nothing.
-use Rattle.std.proofs.Common.{◌-◌, length}
-use Rattle.report.proofs.place.put_shown.Given as goal
-
-abbrev pub invariant-loop-i : goal.invariant-loop-i
-invariant-loop-i l = Unit {0}
-
-abbrev pub decreases-loop-i : goal.decreases-loop-i
-decreases-loop-i l = length l.s - l.i

@@ -1,9 +1,0 @@
--- `streams::number::decimal` is safe and ends. The measure is what is left of the digits. Assumes nothing.
-use Rattle.std.proofs.Common.{◌-◌, length}
-use Rattle.streams.proofs.number.decimal.Given as goal
-
-abbrev pub invariant-loop-i : goal.invariant-loop-i
-invariant-loop-i l = Unit {0}
-
-abbrev pub decreases-loop-i : goal.decreases-loop-i
-decreases-loop-i l = length l.s - l.i
