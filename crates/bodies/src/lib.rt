@@ -18,7 +18,8 @@ use lexer::Line;
 use nodes::{root_want, want};
 use scalars::read_colon;
 
-// Kept: nodes and pool go down as two parameters, since they are two rooms, of which a part or nothing may be lent.
+// Kept: nodes and pool as two parameters: the pass that counts lends an empty part of each, so that a struct of both would be made for
+// each pass and taken apart at each store.
 
 // A field of a message or of an entry, after its name.
 #[cycle(merge_field_read_message_read_value_of_type)]

@@ -39,7 +39,6 @@ fn style_asked(pretty: bool) -> Style
 // Where the newer schema extends the older one, and the table is valid, with a name for every live field and enum number: if the older
 // schema knows all of them and there is room, what was read are the same live values under the same names; if not, the read is refused 6
 // or 7 at the first name that it lacks.
-// Kept: `pretty` is a bool, as the contract of this call names it (`style_of pretty`).
 pub fn carry(
     pretty: bool,
     newer: &[u8],

@@ -38,6 +38,7 @@ fn print_lead(style: Style, depth: usize, first: bool, buffer: &mut [u8], at: us
 }
 
 // A field's name; an unknown field's number stands in its place.
+#[inline(always)]
 fn print_label(schema: &Schema, w: Want, rank: usize, buffer: &mut [u8], at: usize) -> usize
     requires { There schema.now.image.now (within w) × Ranked schema.now.image.now (within w) rank × Room at (label schema.now.image.now (within w) rank) }
     ensures { Written buffer.old at (label schema.now.image.now (within w) rank) buffer.new result }

@@ -38,6 +38,7 @@ fn print_bool(n: u64, buffer: &mut [u8], at: usize) -> usize
 }
 
 #[tactic(auto, unfolding(definitions::specs::Print::number_text))]
+#[inline(always)]
 fn print_number(schema: &Schema, w: Want, kind: u32, n: u64, buffer: &mut [u8], at: usize) -> usize
     requires { Counted schema.now.image.now w kind × Room at (number_text schema.now.image.now w kind n) }
     ensures { Written buffer.old at (number_text schema.now.image.now w kind n) buffer.new result }

@@ -25,7 +25,7 @@ pub fn put(nodes: &mut [u32], k: usize, n: Node)
 }
 
 // A node with none below it: a number, up to a cursor.
-// Kept: `as`, here and below, since these numbers fit by what is presumed; a `try_from` would be a refusal that cannot come.
+// Kept: `as`, here and below, which is proved to lose nothing; `u32::try_from(..).unwrap()` says that in more words.
 pub fn put_number(w: Want, q: Spot, to: Cursor, v: u64, nodes: &mut [u32]) -> Position
     requires { Holds w q }
     ensures { AnswersUpTo to nodes.old nodes.new q (number_leaf w q to.at v) (Ok result) }

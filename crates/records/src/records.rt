@@ -68,7 +68,7 @@ pub fn layout_of(image: &[u8]) -> Layout
 
 // ---- records
 
-// Kept: `as`, since a part of so few bits always fits; a `try_from` would be a refusal that cannot come.
+// Kept: `as`, which is proved to lose nothing; `u8::try_from(..).unwrap()` says that in more words.
 
 // A message or an enum, 24 bits: first 12, count 12.
 pub fn span_at(image: &[u8], at: usize) -> Span

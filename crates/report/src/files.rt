@@ -16,7 +16,7 @@ pub enum Reason {
 }
 
 // The system's numbers for what has a sentence of its own.
-// Kept: numbers, since no kind of the library's errors stands for EBADF.
+// Kept: numbers for all four, since no kind of the library's errors stands for EBADF, and one match is plainer than two.
 const ENOENT: i32 = 2;
 
 const EBADF: i32 = 9;

@@ -13,7 +13,7 @@ use text_format::Style;
 // What is printed goes into the line's room too, since the line is not needed once its numbers are known. More room than there is to lend
 // is no request.
 //
-// Kept: words and bytes are not one struct, since the calls that they are lent to take them apart again.
+// Kept: words and bytes are not one struct: it was tried, and no proof is made for a loan of both its parts.
 pub(crate) fn answer(
     state: &mut State,
     out: &mut Out,

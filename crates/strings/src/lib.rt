@@ -46,7 +46,7 @@ fn digits_piece(digits: &[u8], base: u64, count: usize) -> Option<Piece>
     ensures { result ≡ told (piece_of (worth base 0 digits.now) count) }
 {
     let v = worth(digits, base)?;
-    // Kept: no `try_from`, since the edit `over_255` changes this number.
+    // Kept: the rule's number, which `u8::try_from(v).ok()?` would hide.
     if 255 < v {
         return None;
     }

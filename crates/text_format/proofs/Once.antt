@@ -16,6 +16,9 @@ use Rattle.text_format.proofs.print.Reads as print-contract
 use Rattle.text_format.specs.contracts.print_pretty as print-pretty
 use Rattle.text_format.proofs.print_pretty.Kinds as print-pretty-kinds
 use Rattle.text_format.proofs.print_pretty.Reads as print-pretty-contract
+use Rattle.text_format.specs.contracts.print_styled as print-styled
+use Rattle.text_format.proofs.print_styled.Kinds as print-styled-kinds
+use Rattle.text_format.proofs.print_styled.Reads as print-styled-contract
 use Rattle.text_format.specs.contracts.check_required as check-required
 use Rattle.text_format.proofs.check_required.Kinds as check-required-kinds
 use Rattle.text_format.proofs.check_required.Reads as check-required-contract
@@ -40,6 +43,11 @@ pub print-pretty-once :
     (κs : Lfts 4) (a : ArgsD print-pretty.signature κs) (r q : ResD print-pretty.signature κs) (s t : AtExit (ended_of 4 print-pretty-kinds.ps print-pretty-kinds.r) κs)
     → print-pretty-contract.Post κs a r s → print-pretty-contract.Post κs a q t → (r ≡ q) × (s.1.1.1.1.0.now ≡ t.1.1.1.1.0.now)
 print-pretty-once κs a r q s t x y = (once x.0 y.0, once x.1 y.1)
+
+pub print-styled-once :
+    (κs : Lfts 4) (a : ArgsD print-styled.signature κs) (r q : ResD print-styled.signature κs) (s t : AtExit (ended_of 4 print-styled-kinds.ps print-styled-kinds.r) κs)
+    → print-styled-contract.Post κs a r s → print-styled-contract.Post κs a q t → (r ≡ q) × (s.1.1.1.1.1.0.now ≡ t.1.1.1.1.1.0.now)
+print-styled-once κs a r q s t x y = (once x.0 y.0, once x.1 y.1)
 
 pub check-required-once :
     (κs : Lfts 3) (a : ArgsD check-required.signature κs) (r q : ResD check-required.signature κs) (s t : AtExit (ended_of 3 check-required-kinds.ps check-required-kinds.r) κs)
