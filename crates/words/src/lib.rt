@@ -1,4 +1,4 @@
-// What a person is shown of a refusal: the word at its place, and the line that the word stands on, each lent as a part of the text.
+// What a person is shown of a refusal: the word at its place, and the line that the word stands on, each lent as a part of the text, or empty.
 // Any bytes may be handed in as text, and any offset.
 #![tactic(auto)]
 
