@@ -11,16 +11,24 @@ use lib.ListN.{length, take, drop, length-take, length-drop}
 use lib.Seq.{sets-eq, take_at, take-append-le, drop-append-le}
 use borrow.Author.Tests.{ltb-false, leb-true, leb-false}
 use Rattle.definitions.specs.Basics.{part}
-use Rattle.std.specs.Prelude.{Ok, Err}
+use Rattle.std.specs.Prelude.{Result, Ok, Err}
 use Rattle.definitions.specs.declared.Refused.{Refused}
 use Rattle.definitions.specs.Reading.{Made}
 use Rattle.definitions.specs.Refusals.{Answer, given, denied, bad_table}
 use Rattle.definitions.specs.Validity.{valid}
 use Rattle.definitions.specs.Calls.{barred, unbarred}
 use Rattle.definitions.specs.Print.{Style, print_text, print_fitted, print_answer, print_buffer}
+use Rattle.fields.specs.Fields.{style_of}
 use Rattle.text_format.specs.Answers.{printed_of}
+use Rattle.text_format.proofs.Prints.{Prints}
 use Rattle.carry.specs.declared.NotCarried.TheVariants as not_carried
 use Rattle.carry.specs.Carry.{carried_of, after}
+
+-- ---- the style that is asked for
+
+pub styled : (b c : Bool) → c ≡ b → (image : List ℕ) (root : ℕ) (w pool e : List ℕ) (r : Result ℕ Refused) (x : List ℕ)
+    → Prints image (style_of b) root w pool e r x → Prints image (style_of c) root w pool e r x
+styled b c h image root w pool e r x p = rw h p
 
 -- ---- an answer by its case
 

@@ -3,13 +3,13 @@
 #![tactic(auto)]
 
 ghost use Rattle.std.specs.Prelude.{◌≡◌, length};
-ghost use Rattle.definitions.specs.Print.{print_buffer};
-ghost use Rattle.fields.specs.Fields.{style_of, styled};
+ghost use Rattle.definitions.specs.Print.{print_answer, print_buffer};
+ghost use Rattle.fields.specs.Fields.{style_of};
+ghost use Rattle.text_format.specs.Answers.{printed_of};
 ghost use Rattle.carry.specs.Carry.{carry_answer, carry_nodes, carry_pool, Carriable, Carries};
 
 use definitions::Refused;
 use parse::Made;
-use text_format::Style;
 
 // Which of the two calls refused, and what it refused.
 #[derive(Clone, Copy)]
@@ -18,15 +18,22 @@ pub enum NotCarried {
     Read(Refused),
 }
 
-// The style that is asked for.
-fn style_asked(pretty: bool) -> Style
-    ensures { styled result ≡ style_of pretty }
+// The print that is asked for.
+fn print_as(
+    pretty: bool,
+    image: &[u8],
+    root: usize,
+    nodes: &[u32],
+    pool: &[u8],
+    buffer: &mut [u8],
+) -> Result<usize, Refused>
+    ensures answer { result ≡ printed_of (print_answer image.now (style_of pretty) root nodes.now pool.now (length buffer.old)) }
+    ensures bytes { buffer.new ≡ print_buffer image.now (style_of pretty) root nodes.now pool.now buffer.old }
 {
     if pretty {
-        Style::Pretty
-    } else {
-        Style::Compact
+        return text_format::print_pretty(image, root, nodes, pool, buffer);
     }
+    text_format::print(image, root, nodes, pool, buffer)
 }
 
 // Prints a table of the newer schema into `buffer`, pretty or on one line, and reads that text under the older one into `into` and `bytes`.
@@ -56,13 +63,6 @@ pub fn carry(
     ensures bytes { bytes.new ≡ carry_pool newer.now older.now (style_of pretty) root nodes.now pool.now (length buffer.old) (length into.old) bytes.old }
     ensures demand { Carriable newer.now older.now root nodes.now pool.now (style_of pretty) (length buffer.old) → Carries newer.now older.now root nodes.now pool.now (style_of pretty) result buffer.new into.old into.new bytes.old bytes.new }
 {
-    let n = text_format::print_styled(
-        style_asked(pretty),
-        newer,
-        root,
-        nodes,
-        pool,
-        buffer,
-    ).map_err(NotCarried::Print)?;
+    let n = print_as(pretty, newer, root, nodes, pool, buffer).map_err(NotCarried::Print)?;
     text_format::read(older, root, &buffer[..n], into, bytes).map_err(NotCarried::Read)
 }

@@ -61,10 +61,7 @@ fn put_field(out: &mut Out, schema: &Schema, index: usize) {
         return;
     };
     let name = Owner::Message.name(schema, index);
-    let title = match Owner::of_kind(field.kind) {
-        Some(owner) => titles::title_of(schema, owner, field.reference),
-        None => &[],
-    };
+    let title = titles::title_of(schema, field.kind, field.reference);
     put_type(out, &field, title);
     if title.len().saturating_add(name.len()) >= MOST_COLUMNS - LINE_WIDTH {
         out.bytes(b"\n     ");
@@ -88,7 +85,7 @@ fn put_value(out: &mut Out, schema: &Schema, index: usize) {
 
 // `message Settings {  // message 0`, or `enum Mode {`
 fn put_head(out: &mut Out, schema: &Schema, owner: Owner, index: usize) {
-    let title = titles::title_of(schema, owner, index);
+    let title = titles::title_of(schema, owner.kind(), index);
     out.bytes(match owner {
         Owner::Message => b"\nmessage ".as_slice(),
         Owner::Enum => b"\nenum ".as_slice(),

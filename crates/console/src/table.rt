@@ -71,7 +71,14 @@ impl<'a> Table<'a> {
 
     // Prints the table, and answers how long the print is.
     pub(crate) fn print(&self, style: Style, shown: &mut [u8]) -> Result<usize, Refused> {
-        text_format::print_styled(style, self.image, self.root, self.nodes, self.pool, shown)
+        match style {
+            Style::Compact => text_format::print(
+                self.image, self.root, self.nodes, self.pool, shown,
+            ),
+            Style::Pretty => {
+                text_format::print_pretty(self.image, self.root, self.nodes, self.pool, shown)
+            }
+        }
     }
 }
 

@@ -35,11 +35,13 @@ fn is_name(title: &[u8]) -> bool {
             .all(|b| b.is_ascii_alphanumeric() || *b == b'_' || *b == b'.')
 }
 
-// The name of a message or of an enum; empty where the image has none for it.
-pub fn title_of<'a>(schema: &Schema<'a>, owner: Owner, index: usize) -> &'a [u8] {
-    let before = match owner {
-        Owner::Message => 0,
-        Owner::Enum => schema.message_count(),
+// The name of a message or of an enum, by the kind of the fields that refer to one; empty where the image has none for it, and for any
+// other kind.
+pub fn title_of<'a>(schema: &Schema<'a>, kind: u8, index: usize) -> &'a [u8] {
+    let before = match Owner::of_kind(kind) {
+        Some(Owner::Message) => 0,
+        Some(Owner::Enum) => schema.message_count(),
+        None => return &[],
     };
     let title = titles(schema)
         .split(|b| *b == 0)

@@ -25,7 +25,7 @@ pub const SYMBOL: u8 = 8;
 pub const DIGIT: u8 = 9;
 
 // The class of each byte.
-const CLASSES: [u8; 256] = [
+pub const CLASSES: [u8; 256] = [
     0, 7, 7, 7, 7, 7, 7, 7, 7, 5, 4, 5, 5, 5, 7, 7, 7, 7, 7, 7, 7, 7, 7, 7, 7, 7, 7, 7, 7, 7, 7, 7,
     5, 7, 3, 6, 7, 7, 7, 3, 7, 7, 7, 7, 8, 8, 7, 7, 9, 9, 9, 9, 9, 9, 9, 9, 9, 9, 8, 8, 8, 7, 8, 7,
     7, 10, 10, 10, 10, 10, 10, 10, 10, 10, 10, 10, 10, 10, 10, 10, 10, 10, 10, 10, 10, 10, 10, 10,
@@ -38,10 +38,10 @@ const CLASSES: [u8; 256] = [
 ];
 
 // The table, for the outermost caller to hold in a local and lend down.
-#[derive(Drop)]
+#[derive(Clone, Copy)]
 pub struct ClassTable {
-    table: [u8; 256],
-    ghost kept: { table ≡ classes },
+    pub table: [u8; 256],
+    pub ghost kept: { table ≡ classes },
 }
 
 impl ClassTable {

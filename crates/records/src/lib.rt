@@ -9,7 +9,8 @@ mod tables;
 
 pub use names::same;
 pub use records::{
-    enum_count, field_count, layout_of, message_count, name_count, span_at, value_count,
+    enum_count, field_count, field_zero, layout_of, member_zero, message_count, name_count,
+    span_at, value_count,
 };
 pub use schema::Schema;
 pub use tables::Tables;

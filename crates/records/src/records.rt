@@ -111,3 +111,18 @@ pub(crate) fn member_at(image: &[u8], at: usize) -> Member
         number: cut(word, 2, 32) as u32,
     }
 }
+
+// The zero bits at the end of a field's record, and of an enum value's.
+pub fn field_zero(image: &[u8], at: usize) -> u64
+    requires { at + 9 ≤ length image.now }
+    ensures { result ≡ spec.field_zero (drop at image.now) }
+{
+    cut(load(image, at + 8, 1), 0, 3)
+}
+
+pub fn member_zero(image: &[u8], at: usize) -> u64
+    requires { at + 7 ≤ length image.now }
+    ensures { result ≡ spec.member_zero (drop at image.now) }
+{
+    cut(load(image, at + 6, 1), 0, 2)
+}

@@ -3,9 +3,8 @@ ghost use Rattle.std.specs.Prelude.{◌≡◌, ◌+◌, ◌≤◌, ◌<◌};
 ghost use Rattle.definitions.specs.Image as spec;
 ghost use Rattle.records.specs.Known.{Placed};
 
-use crate::records::{self, field_at, member_at, span_at};
+use crate::records::{self, field_at, field_zero, member_at, member_zero, span_at};
 use crate::{FIELD, HEADER, Layout, RUN, VALUE};
-use bits::{cut, load};
 use definitions::{Field, Member, Span};
 
 #[derive(Clone, Copy)]
@@ -84,16 +83,14 @@ impl<'a> Tables<'a> {
         requires { index < spec.field_count self.now.image.now }
         ensures { result ≡ spec.field_zero (spec.field_at self.now.image.now index) }
     {
-        let last = self.layout.fields + FIELD * index + 8;
-        cut(load(self.image, last, 1), 0, 3)
+        field_zero(self.image, self.layout.fields + FIELD * index)
     }
 
     pub fn member_zero(&self, index: usize) -> u64
         requires { index < spec.value_count self.now.image.now }
         ensures { result ≡ spec.member_zero (spec.member_at self.now.image.now index) }
     {
-        let last = self.layout.values + VALUE * index + 6;
-        cut(load(self.image, last, 1), 0, 2)
+        member_zero(self.image, self.layout.values + VALUE * index)
     }
 
     // ---- names: parts of the image from the middle, compared there

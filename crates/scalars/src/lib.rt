@@ -29,10 +29,10 @@ fn read_scalar(
     ensures { Answers (line_at source.now.text.now) nodes.old nodes.new pool.old pool.new here.spot (scalar source.now.schema.image.now source.now.text.now w here.spot) result }
 {
     if w.kind < kinds::U32 {
-        return read_signed(source, w, here, nodes);
+        return read_signed(source.text, source.table, w, here, nodes);
     }
     if w.kind < kinds::BOOL {
-        return read_unsigned(source, w, here, nodes);
+        return read_unsigned(source.text, source.table, w, here, nodes);
     }
     if w.kind == kinds::BOOL {
         return read_bool(source, w, here, nodes);

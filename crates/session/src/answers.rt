@@ -4,6 +4,7 @@ use crate::request::Request;
 use crate::state::State;
 use crate::{lent, request, tell};
 use carry::NotCarried;
+use definitions::Refused;
 use streams::lines::Line;
 use streams::out::Out;
 use text_format::Style;
@@ -88,17 +89,19 @@ fn read(state: &mut State, out: &mut Out, text: &[u8], words: &mut [u32], bytes:
     }
 }
 
+// The print that is asked for.
+fn print_styled(state: &State, style: Style, room: &mut [u8]) -> Result<usize, Refused> {
+    let (image, table, pool) = (state.image.items(), state.table.items(), state.pool.items());
+    match style {
+        Style::Compact => text_format::print(image, state.root, table, pool, room),
+        Style::Pretty => text_format::print_pretty(image, state.root, table, pool, room),
+    }
+}
+
 // `C 0 0 LENGTH HEX KEPT` or `C NO AT LINE COL KEPT`, and likewise `Y`. Where the length went over the room, what is there is told.
 fn print(state: &State, out: &mut Out, style: Style, room: &mut [u8]) {
     room.fill(lent::BYTE);
-    let answer = text_format::print_styled(
-        style,
-        state.image.items(),
-        state.root,
-        state.table.items(),
-        state.pool.items(),
-        room,
-    );
+    let answer = print_styled(state, style, room);
     out.byte(request::letter(style));
     match answer {
         Ok(length) => {

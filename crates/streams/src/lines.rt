@@ -8,7 +8,7 @@ use std::io::Read;
 pub const INPUT_LENGTH: usize = 16384;
 
 // Where the input stands. Of its room the bytes from start to end are read and in no line yet; `count` lines were begun.
-#[derive(Drop)]
+#[derive(Clone, Copy)]
 pub struct Lines {
     rt: HostRuntime,
     room: [u8; INPUT_LENGTH],

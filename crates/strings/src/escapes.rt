@@ -27,10 +27,10 @@ const ESCAPES: [(u8, u8); 11] = [
 ];
 
 // The table, for the outermost caller to hold in a local and lend down.
-#[derive(Drop)]
+#[derive(Clone, Copy)]
 pub struct Escapes {
-    table: [(u8, u8); 11],
-    ghost kept: { table ≡ rows escapes },
+    pub table: [(u8, u8); 11],
+    pub ghost kept: { table ≡ rows escapes },
 }
 
 impl Escapes {

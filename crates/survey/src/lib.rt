@@ -2,7 +2,7 @@
 // handed in: where schema, root or table are refused (1, 2, 15), there are no values and nothing lacks.
 #![tactic(auto)]
 
-mod required;
+pub mod required;
 mod scalars;
 
 ghost use Rattle.std.specs.Prelude.{◌≡◌, true, false, MatchOption};

@@ -1,9 +1,9 @@
 -- `scalars::names::read_bool` meets its contract: a bad token, no name, `true`, `false`, another name.
-use mathlib.Core.Path.{ap}
+use mathlib.Core.Path.{sym, ◌∙◌, ap}
 use Rattle.std.specs.Prelude.{Err}
 use Rattle.std.proofs.lemmas.Result.{err_from_is_err_and}
 use Rattle.leaves.proofs.Returns.{no-answers, answers_by}
-use Rattle.leaves.proofs.Steps.{scanned, scanned-line, bad-answers, reached, tested-same, bool-bad, bool-other, bool-true, bool_false, bool-neither}
+use Rattle.leaves.proofs.Steps.{scanned, scanned-line, bad-answers, reached, bool-bad, bool-other, bool-true, bool_false, bool-neither}
 use Rattle.scalars.proofs.names.read_bool.Goals as goal
 
 pub returns-in_err-t : goal.returns-in_err-t
@@ -17,19 +17,19 @@ returns-then-t-ne-NAME c = λ f. no-answers _ _ _ _ _ _ _ _ _ (bool-other _ _ _ 
 pub bytes_of-name-requires : goal.bytes_of-name-requires
 bytes_of-name-requires c = reached _ _ _ _ c.requires.0.inside (scanned _ _ _ _ c.in_ok-t.ensures)
 
-pub returns-then-eq : goal.returns-then-eq
-returns-then-eq c = λ f.
-    let t = tested-same _ _ _ _ _ c.if-eq.ensures c.bytes_of-name.ensures c.as_slice.ensures in
+pub returns-then-same : goal.returns-then-same
+returns-then-same c = λ f.
+    let t = rw c.bytes_of-name.ensures at (sym c.if-same.true ∙ c.same.ensures) in
     answers_by _ _ _ _ _ _ _ _ (bool-true _ c.args.w c.args.here.spot _ _ (scanned _ _ _ _ c.in_ok-t.ensures) c.if-t-ne-NAME.false t) (c.put_number.ensures _ (scanned-line _ _ _ _ c.in_ok-t.ensures) f)
 
-pub returns-then-eq-2 : goal.returns-then-eq-2
-returns-then-eq-2 c = λ f.
-    let t = tested-same _ _ _ _ _ c.if-eq.ensures c.bytes_of-name.ensures c.as_slice.ensures in
-    let u = tested-same _ _ _ _ _ c.if-eq-2.ensures c.bytes_of-name.ensures c.as_slice-2.ensures in
-    answers_by _ _ _ _ _ _ _ _ (bool_false _ c.args.w c.args.here.spot _ _ (scanned _ _ _ _ c.in_ok-t.ensures) c.if-t-ne-NAME.false t u) (c.put_number-then-eq-2.ensures _ (scanned-line _ _ _ _ c.in_ok-t.ensures) f)
+pub returns-then-same-2 : goal.returns-then-same-2
+returns-then-same-2 c = λ f.
+    let t = rw c.bytes_of-name.ensures at (sym c.if-same.false ∙ c.same.ensures) in
+    let u = rw c.bytes_of-name.ensures at (sym c.if-same-2.true ∙ c.same-2.ensures) in
+    answers_by _ _ _ _ _ _ _ _ (bool_false _ c.args.w c.args.here.spot _ _ (scanned _ _ _ _ c.in_ok-t.ensures) c.if-t-ne-NAME.false t u) (c.put_number-then-same-2.ensures _ (scanned-line _ _ _ _ c.in_ok-t.ensures) f)
 
 pub returns : goal.returns
 returns c = λ f.
-    let t = tested-same _ _ _ _ _ c.if-eq.ensures c.bytes_of-name.ensures c.as_slice.ensures in
-    let u = tested-same _ _ _ _ _ c.if-eq-2.ensures c.bytes_of-name.ensures c.as_slice-2.ensures in
+    let t = rw c.bytes_of-name.ensures at (sym c.if-same.false ∙ c.same.ensures) in
+    let u = rw c.bytes_of-name.ensures at (sym c.if-same-2.false ∙ c.same-2.ensures) in
     no-answers _ _ _ _ _ _ _ _ _ (bool-neither _ c.args.w c.args.here.spot _ _ (scanned _ _ _ _ c.in_ok-t.ensures) c.if-t-ne-NAME.false t u) (ap Err c.at-2.ensures)

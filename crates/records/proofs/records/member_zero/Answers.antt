@@ -1,0 +1,9 @@
+-- `records::records::member_zero` meets its contract: the lowest bits of the record's last byte.
+use mathlib.Core.Path.{refl}
+use Prim.Native.Nat.{◌+◌}
+use native.Mathlib.Omega.{arith}
+use Rattle.bits.proofs.BitLaws.{bits-loaded}
+use Rattle.records.proofs.records.member_zero.Goals as goal
+
+pub returns : goal.returns
+returns c = bits-loaded c.args.image.now c.args.at (c.args.at + 6) 6 2 0 8 48 refl (omega arith) c.load.ensures c.cut.ensures
