@@ -29,7 +29,7 @@ impl Line {
     };
 
     // The next line, which begins at an offset.
-    // Kept: `as`, here and in `place`, which is proved to lose nothing: with the test of `try_from` a text of newlines takes a third more time.
+    // Kept: `as`, here and in `place`, which is proved to lose nothing: with the test of `try_from` a newline takes three instructions more.
     pub fn next(self, began: usize) -> Line
         requires { (self.number ≤ most_text) × (began ≤ most_text) }
         ensures { result ≡ record { number = self.number + 1; began = began } }
