@@ -47,7 +47,7 @@ skip-end s i h = rw (drop_of_length-le s h) (omega arith)
 
 module _ (s : List ℕ) (i : ℕ) (h : i < length s) {c : ℕ} (e : c ≡ class (get_or s i 0)) where
   -- the classes 4, 5 and 6 are what separates
-  skip_stop : (c ≡ space_class → ⊥) → (c ≡ newline_class → ⊥) → (c ≡ comment_class → ⊥) → i ≡ skip s i
+  pub skip_stop : (c ≡ space_class → ⊥) → (c ≡ newline_class → ⊥) → (c ≡ comment_class → ⊥) → i ≡ skip s i
   unfolding skip gap
   skip_stop f g k = rw (drop-cons s i 0) (simp (← e, ne_eqb _ _ f, ne_eqb _ _ g, ne_eqb _ _ k) (omega arith))
 
@@ -77,10 +77,6 @@ module _ (s : List ℕ) (i : ℕ) (h : i < length s) {c : ℕ} (e : c ≡ class 
   pub skip-blank : between newline_class comment_class c ≡ true → (c ≡ comment_class → ⊥) → skip s (i + 1) ≡ skip s i
   unfolding skip gap
   skip-blank t k = rw (drop-cons s i 0) (simp (← e, blank (bounds t).0 (bounds t).1 k, add-one) (omega arith))
-
-  -- what separates, and is neither a space nor a newline, begins a comment
-  pub comment-left : between newline_class comment_class c ≡ true → (c ≡ space_class → ⊥) → (c ≡ newline_class → ⊥) → c ≡ comment_class
-  comment-left t f g = omega (arith, (bounds t).0, (bounds t).1)
 
 -- ---- integers
 

@@ -2,9 +2,9 @@
 ghost use Rattle.std.specs.Prelude.{◌≡◌};
 ghost use Rattle.definitions.specs.Classes.{classes, class, class_rule};
 
-// The classes rise so that one comparison tells what separates (4 to 6), what is plain inside a string (5 and up), what goes on a
-// name (9 and up) and what begins one (10). Those with no name here: 0 the zero byte, 1 a byte over 127, 2 the backslash, 7 what no
-// token begins with, 10 letters and `_`.
+// The classes rise so that one comparison tells what is plain inside a string (5 and up), what goes on a name (9 and up) and what begins
+// one (10); what separates is 4 to 6. Those with no name here: 0 the zero byte, 1 a byte over 127, 2 the backslash, 7 what no token
+// begins with, 10 letters and `_`.
 //
 // Kept: numbers and no enum, since the definitions' table holds numbers, and one comparison tells several of them.
 
