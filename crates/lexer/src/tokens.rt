@@ -2,7 +2,7 @@
 // Each function takes the text whole and a place in it, which may lie past the end; the table of classes is lent down.
 ghost use Rattle.std.specs.Prelude.{false, ◌&&◌, ◌≡◌, ◌+◌, ◌^◌, ◌≤◌, ◌<◌, eqb, ltb, length, drop, get_or};
 ghost use Rattle.definitions.specs.Basics.{between};
-ghost use Rattle.definitions.specs.Classes.{class, goes_on, quote_class, newline_class, comment_class};
+ghost use Rattle.definitions.specs.Classes.{class, goes_on, quote_class};
 ghost use Rattle.definitions.specs.Integers.{front, hex_digit, integer_length, runs_on};
 ghost use Rattle.definitions.specs.Refusals.{most_text};
 ghost use Rattle.definitions.specs.Tokens.{bad, colon, inside, integer_scan, scan, scan_from, string_scan, token_of};
