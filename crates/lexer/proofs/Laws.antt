@@ -78,7 +78,7 @@ module _ (s : List ℕ) (i : ℕ) (h : i < length s) {c : ℕ} (e : c ≡ class 
   unfolding skip gap
   skip-blank t k = rw (drop-cons s i 0) (simp (← e, blank (bounds t).0 (bounds t).1 k, add-one) (omega arith))
 
-  -- what separates, and is neither a space nor a newline, begins a comment
+  -- what separates, and is neither a space nor a newline, begins a comment: for who tells what separates by the range of its classes
   pub comment-left : between newline_class comment_class c ≡ true → (c ≡ space_class → ⊥) → (c ≡ newline_class → ⊥) → c ≡ comment_class
   comment-left t f g = omega (arith, (bounds t).0, (bounds t).1)
 
